@@ -1,0 +1,2 @@
+// Charts: their numbers, their names, and what always holds of an accepted one.
+pub mod numbers;
