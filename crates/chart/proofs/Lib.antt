@@ -1,2 +1,5 @@
 pub mod Reading
 pub mod Letters
+pub mod Seeking
+pub mod Counting
+pub mod Numbering
