@@ -3,3 +3,4 @@ pub mod Letters
 pub mod Seeking
 pub mod Counting
 pub mod Numbering
+pub mod Additions

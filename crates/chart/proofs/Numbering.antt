@@ -86,6 +86,15 @@ inside (sent n ∷ es) j h (suc e) d l = omega (arith, inside es (suc j) (at-sen
 inside (received n ∷ es) j h zero d l = omega (arith, at-receipt j n es h .0, count-no isSending (received n) es refl)
 inside (received n ∷ es) j h (suc e) d l = omega (arith, inside es j (at-receipt j n es h .1) e d (omega arith), count-no isSending (received n) es refl)
 
+-- what is not sent is not received
+pub not-received : (es : List Happening) (j m : ℕ) → numbered j es ≡ true → j + sends es ≤ m → countBy (isReceived m) es ≡ 0
+not-received [] j m h l = refl
+not-received (sent n ∷ es) j m h l =
+    count-no (isReceived m) (sent n) es refl ∙ not-received es (suc j) m (at-send j n es h .1) (omega (arith, count-yes isSending (sent n) es refl))
+not-received (received n ∷ es) j m h l =
+    let p = at-receipt j n es h in
+    count-no (isReceived m) (received n) es (ne-eqb n m (λ e. omega (arith, p .0))) ∙ not-received es j m (p .1) (omega (arith, count-no isSending (received n) es refl))
+
 -- the events are the sends and, message by message, the receipts
 pub all-events : (es : List Happening) (j k : ℕ) → numbered j es ≡ true → j + sends es ≡ k → sumBelow (λ m. countBy (isReceived m) es) k + sends es ≡ length es
 all-events [] j k h e = omega (arith, sum-nothing k)

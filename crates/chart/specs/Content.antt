@@ -1,14 +1,13 @@
 -- What a chart says, free of how it is stored.
 use mathlib.Core.Path.{_≡_}
 use mathlib.Core.Bool.{Bool, true, false, not, _&&_}
-use mathlib.Core.List.{List, [], _∷_, _++_}
+use mathlib.Core.List.{List, [], _∷_, map}
 use Prim.Native.Nat.{ℕ, suc, _<_, _≤_}
 use lib.Dec.{eqb, ltb}
-use lib.ListN.{length, getD}
-use Rattle.std.specs.shelf.Lists.{countBy, leading}
-use Rattle.std.specs.shelf.Text.{sameBytes}
+use lib.ListN.{length, getD, take}
+use Rattle.std.specs.shelf.Lists.{All, countBy, leading}
 use Rattle.chart.specs.Words.{Text, isName}
-use Rattle.chart.specs.Repeats.{Apart}
+use Rattle.chart.specs.Lookup.{among}
 
 -- an event: message m leaves its sender, or arrives at its receiver
 pub data Happening : Type 0 where
@@ -60,19 +59,26 @@ sentAt m es = leading (λ e. not (isSent m e)) es
 abbrev pub receivedAt : ℕ → List Happening → ℕ
 receivedAt m es = leading (λ e. not (isReceived m e)) es
 
--- sender and receiver are two instances of the chart
-abbrev pub Joins : ℕ → Post → Type 0
-Joins n p = (p .sender < n) × (p .receiver < n) × (p .sender ≡ p .receiver → ⊥)
+-- sender and receiver are two of n instances
+abbrev pub joins : ℕ → Post → Bool
+joins n p = ltb (p .sender) n && (ltb (p .receiver) n && not (eqb (p .sender) (p .receiver)))
+
+-- no name stands among those before it
+abbrev pub NamesApart : List Text → Type 0
+NamesApart ts = (k : ℕ) → k < length ts → among (getD ts k []) (take k ts) ≡ false
+
+abbrev pub messageNames : Content → List Text
+messageNames c = map (λ p. p .name) (c .messages)
 
 module _ (c : Content) where
   abbrev pub InstancesApart : Type 0
-  InstancesApart = Apart sameBytes (c .instances) (length (c .instances))
+  InstancesApart = NamesApart (c .instances)
 
   abbrev pub MessagesApart : Type 0
-  MessagesApart = Apart (λ p q. sameBytes (p .name) (q .name)) (c .messages) (length (c .messages))
+  MessagesApart = NamesApart (messageNames c)
 
   abbrev pub AllJoin : Type 0
-  AllJoin = (m : ℕ) (d : Post) → m < length (c .messages) → Joins (length (c .instances)) (getD (c .messages) m d)
+  AllJoin = (m : ℕ) (d : Post) → m < length (c .messages) → joins (length (c .instances)) (getD (c .messages) m d) ≡ true
 
   abbrev pub Numbered : Type 0
   Numbered = numbered 0 (c .events) ≡ true
@@ -102,8 +108,8 @@ pub record WellFormed (c : Content) : Type 0 where
   pub some-instance : 0 < length (c .instances)
   pub few-instances : length (c .instances) ≤ 16
   pub few-messages : length (c .messages) ≤ 64
-  pub instance-names : (i : ℕ) (d : Text) → i < length (c .instances) → isName (getD (c .instances) i d) ≡ true
-  pub message-names : (m : ℕ) (d : Post) → m < length (c .messages) → isName (getD (c .messages) m d .name) ≡ true
+  pub instance-names : All (λ t. isName t ≡ true) (c .instances)
+  pub message-names : All (λ t. isName t ≡ true) (messageNames c)
   pub instances-apart : InstancesApart c
   pub messages-apart : MessagesApart c
   pub all-join : AllJoin c

@@ -5,3 +5,5 @@ pub mod Content
 pub mod Lookup
 pub mod Pieces
 pub mod Shown
+pub mod Drafting
+pub mod Drafted

@@ -5,3 +5,4 @@ pub mod repeats;
 pub mod names;
 pub mod pieces;
 pub mod lookup;
+pub mod drafting;
