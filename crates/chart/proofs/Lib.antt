@@ -4,3 +4,4 @@ pub mod Seeking
 pub mod Counting
 pub mod Numbering
 pub mod Additions
+pub mod Stored

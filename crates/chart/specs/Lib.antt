@@ -7,3 +7,4 @@ pub mod Pieces
 pub mod Shown
 pub mod Drafting
 pub mod Drafted
+pub mod Charted

@@ -6,3 +6,4 @@ pub mod names;
 pub mod pieces;
 pub mod lookup;
 pub mod drafting;
+pub mod charting;
