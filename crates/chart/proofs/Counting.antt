@@ -2,14 +2,15 @@
 use mathlib.Core.Path.{_≡_, refl, sym, ap, _∙_}
 use mathlib.Core.Logic.{_⊎_, ⊎-elim}
 use mathlib.Core.Bool.{Bool, true, false, cond}
-use mathlib.Core.List.{List, [], _∷_, _++_}
+use mathlib.Core.List.{List, [], _∷_, _++_, map}
 use Prim.Native.Nat.{ℕ, zero, suc, _+_, _≤_, _<_}
 use native.Mathlib.Omega.{arith}
-use lib.Dec.{eqb}
-use lib.ListN.{length}
+use lib.Dec.{eqb, ltb}
+use lib.ListN.{length, getD, drop}
 use Rattle.std.specs.shelf.Lists.{countBy}
+use Rattle.std.proofs.shelf.Lists.{at-drop-more, at-drop-all}
 use Rattle.std.proofs.shelf.Sums.{sumBy-cons, sumBy-push}
-use Rattle.std.proofs.shelf.Tests.{ne-eqb, eq-eqb, cases-eq}
+use Rattle.std.proofs.shelf.Tests.{ne-eqb, eq-eqb, cases-eq, lt-ltb}
 
 module _ {X : Type 0} (p : X → Bool) where
   pub count-yes : (x : X) (xs : List X) → p x ≡ true → countBy p (x ∷ xs) ≡ 1 + countBy p xs
@@ -49,3 +50,17 @@ sum-few f (suc k) few = omega (arith, few k (omega arith), sum-few f k (λ m l. 
 pub sum-nothing : (k : ℕ) → sumBelow (λ m. 0) k ≡ 0
 sum-nothing zero = refl
 sum-nothing (suc k) = omega (arith, sum-nothing k)
+
+-- a walk that looks for an element that passes, seen through a map
+module _ {X Y : Type 0} (p : Y → Bool) (f : X → Y) (xs : List X) (i : ℕ) where
+  abbrev Any : List X → Bool
+  Any ys = ltb 0 (countBy p (map f ys))
+
+  pub any-goes-on : (d : X) → i < length xs → p (f (getD xs i d)) ≡ false → Any (drop (i + 1) xs) ≡ Any (drop i xs)
+  any-goes-on d inside fails = sym (at-drop-more Any xs i d inside ∙ ap (ltb 0) (count-no p (f (getD xs i d)) (map f (drop (i + 1) xs)) fails))
+
+  pub any-stops : (d : X) → i < length xs → p (f (getD xs i d)) ≡ true → Any (drop i xs) ≡ true
+  any-stops d inside passes = at-drop-more Any xs i d inside ∙ lt-ltb 0 _ (omega (arith, count-yes p (f (getD xs i d)) (map f (drop (i + 1) xs)) passes))
+
+  pub any-ends : length xs ≤ i → Any (drop i xs) ≡ false
+  any-ends beyond = at-drop-all Any xs i beyond

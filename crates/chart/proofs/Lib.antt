@@ -5,3 +5,5 @@ pub mod Counting
 pub mod Numbering
 pub mod Additions
 pub mod Stored
+pub mod Invariants
+pub mod Repeating

@@ -57,3 +57,20 @@ module _ {X : Type 0} (called : X → Text) (t : Text) where
   -- the comparison of an element that was read
   pub read-at : (xs : List X) (i : ℕ) (x : X) (s : Text) (b : Bool) → i < length xs → x ≡ getD xs i x → s ≡ called x → b ≡ sameBytes s t → (d : X) → Is (getD xs i d) ≡ b
   read-at xs i x s b inside is name tested d = let r = getD-read xs i x inside is d in cc
+
+  pub seek-inside : (xs : List X) (i : ℕ) → seek called t xs ≡ Some i → i < length xs
+  seek-inside [] i e = some-not-none i _ (sym e)
+  seek-inside (x ∷ xs) i e =
+      elim (cases-bool (Is x)) [
+        inl first ↦ let z : Some 0 ≡ Some i = sym (cond-true (Is x) (Some 0) (mapped suc (seek called t xs)) first) ∙ e in let h : 0 ≡ i = cc in omega arith
+      | inr first ↦ after (seek called t xs) i (seek-inside xs) (sym (cond-false (Is x) (Some 0) (mapped suc (seek called t xs)) first) ∙ e)
+      ]
+    where
+      after : (o : Option ℕ) (i : ℕ) → ((j : ℕ) → o ≡ Some j → j < length xs) → mapped suc o ≡ Some i → i < suc (length xs)
+      after None i rest e = some-not-none i _ (sym e)
+      after (Some j) i rest e = let h : suc j ≡ i = cc in omega (arith, rest j refl)
+
+-- a lookup through a map
+pub seek-map : {X Y : Type 0} (called : Y → Text) (f : X → Y) (t : Text) (xs : List X) → seek called t (map f xs) ≡ seek (λ x. called (f x)) t xs
+seek-map called f t [] = refl
+seek-map called f t (x ∷ xs) = ap (λ o. cond (sameBytes (called (f x)) t) (Some 0) (mapped suc o)) (seek-map called f t xs)

@@ -1,7 +1,7 @@
 -- How a chart grows line by line, and why a line does not fit.
-use mathlib.Core.Bool.{Bool, cond}
+use mathlib.Core.Bool.{Bool, true, cond, _&&_}
 use mathlib.Core.List.{List, [], _∷_, _++_}
-use Prim.Native.Nat.{ℕ, _+_}
+use Prim.Native.Nat.{ℕ, zero, suc}
 use lib.Dec.{leb, eqb, ltb}
 use lib.ListN.{length}
 use Rattle.std.specs.declared.result.Result.{Result}
@@ -44,6 +44,14 @@ messageCalled c t = among t (messageNames c)
 
 abbrev pub timesReceived : Content → ℕ → ℕ
 timesReceived c m = countBy (isReceived m) (c .events)
+
+-- whether each number below n passes
+abbrev pub allBelow : (ℕ → Bool) → ℕ → Bool
+allBelow p zero = true
+allBelow p (suc n) = p n && allBelow p n
+
+abbrev pub allReceived : Content → Bool
+allReceived c = allBelow (λ m. ltb 0 (timesReceived c m)) (length (c .messages))
 
 -- one instance more
 abbrev pub listed : Content → Text → Result Content InstanceRefusal

@@ -7,6 +7,7 @@ ghost use Rattle.std.specs.Options.{isSome};
 ghost use Rattle.chart.specs.Content.{InstancesApart, MessagesApart, AllJoin, Numbered, AllSent, NoneTwice};
 ghost use Rattle.chart.specs.Shown.{contentOf};
 pub mod growing;
+pub mod consulting;
 use super::pieces::Parts;
 
 pub const INSTANCE_LIMIT: usize = 16;

@@ -5,7 +5,7 @@ ghost use lib.Dec.{ltb};
 ghost use lib.ListN.{length};
 ghost use Rattle.std.specs.Options.{mapped};
 ghost use Rattle.std.specs.Results.{Cases};
-ghost use Rattle.std.specs.Vec.{made};
+ghost use Rattle.std.specs.Vec.{made, refused};
 ghost use Rattle.std.specs.Of.Vec.{vec-items};
 ghost use Rattle.std.specs.shelf.Lists.{countBy};
 ghost use Rattle.chart.specs.Content.{isReceived};
@@ -32,6 +32,8 @@ use super::super::pieces::Parts;
 use super::super::repeats::first_repeat;
 use std::alloc::AllocError;
 use std::alloc::Global;
+use crate::lookup::MessageNamed;
+use crate::numbers::InstanceIdPartialEq;
 
 impl Draft {
     pub fn new(heap: Global, title: Name, first: Name) -> Result<Draft, AllocError>
@@ -42,5 +44,63 @@ impl Draft {
         let events = Vec::with_capacity(heap, EVENT_LIMIT)?;
         instances.push_reserved(first);
         Ok(Draft { parts: Parts { title: Some(title), instances, messages, events } })
+    }
+
+    // One instance more.
+    pub fn add_instance(&mut self, name: Name) -> Result<(), InstanceRefusal>
+        ensures answer { λ r. ⌜ leaving r (drafted (now (self .exit))) ≡ listed (drafted (now (self .entry))) (textOf name) ⌝ }
+        ensures unchanged { λ r. ⌜ refused r (λ _. drafted (now (self .exit)) ≡ drafted (now (self .entry))) ⌝ }
+    {
+        if self.parts.instances.len() >= INSTANCE_LIMIT {
+            return Err(InstanceRefusal::TooMany);
+        }
+        self.parts.instances.push_reserved(name);
+        if first_repeat(&self.parts.instances).is_some() {
+            let _ = self.parts.instances.pop();
+            return Err(InstanceRefusal::NamedTwice);
+        }
+        Ok(())
+    }
+
+    // One message more, with its out event.
+    pub fn send(&mut self, name: Name, sender: InstanceId, receiver: InstanceId) -> Result<MessageId, SendRefusal>
+        ensures answer { λ r. ⌜ leaving r (drafted (now (self .exit))) ≡ dispatched (drafted (now (self .entry))) (textOf name) (sender .0) (receiver .0) ⌝ }
+        ensures number { λ r. ⌜ Cases r (λ m. m .0 ≡ length (drafted (now (self .entry)) .messages)) (λ _. drafted (now (self .exit)) ≡ drafted (now (self .entry))) ⌝ }
+    {
+        if find(&self.parts.messages, name.text()).is_some() {
+            return Err(SendRefusal::NamedTwice);
+        }
+        let count = self.parts.messages.len();
+        if count >= MESSAGE_LIMIT {
+            return Err(SendRefusal::TooMany);
+        }
+        if sender.0 as usize >= self.parts.instances.len() {
+            return Err(SendRefusal::NoSender);
+        }
+        if receiver.0 as usize >= self.parts.instances.len() {
+            return Err(SendRefusal::NoReceiver);
+        }
+        if sender == receiver {
+            return Err(SendRefusal::ToItself);
+        }
+        let message = MessageId(count as u16);
+        self.parts.messages.push_reserved(Message { name, sender, receiver });
+        self.parts.events.push_reserved(Event::Out(message));
+        Ok(message)
+    }
+
+    // The in event of a message that was sent.
+    pub fn receive(&mut self, message: MessageId) -> Result<(), ReceiveRefusal>
+        ensures answer { λ r. ⌜ leaving r (drafted (now (self .exit))) ≡ delivered (drafted (now (self .entry))) (message .0) ⌝ }
+        ensures unchanged { λ r. ⌜ refused r (λ _. drafted (now (self .exit)) ≡ drafted (now (self .entry))) ⌝ }
+    {
+        if message.0 as usize >= self.parts.messages.len() {
+            return Err(ReceiveRefusal::NotSent);
+        }
+        if self.is_received(message) {
+            return Err(ReceiveRefusal::Again);
+        }
+        self.parts.events.push_reserved(Event::In(message));
+        Ok(())
     }
 }
