@@ -7,3 +7,4 @@ pub mod Additions
 pub mod Stored
 pub mod Invariants
 pub mod Repeating
+pub mod Judging
