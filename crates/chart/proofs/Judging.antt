@@ -11,7 +11,7 @@ use Rattle.std.specs.Of.Vec.{vec-items}
 use Rattle.std.specs.Options.{isSome}
 use Rattle.std.specs.declared.option.Option.{Option}
 use Rattle.std.specs.declared.result.Result.the-variants.{Ok, Err}
-use Rattle.std.proofs.shelf.Tests.{cond-true, cond-false, le-leb, lt-leb, eq-eqb, ne-eqb, and-from, and-right, lt-ltb, cases-eq}
+use Rattle.std.proofs.shelf.Tests.{cond-true, cond-false, le-leb, lt-leb, eq-eqb, ne-eqb, and-parts, and-from, and-right, lt-ltb, cases-eq}
 use Rattle.chart.specs.Words.{Text}
 use Rattle.chart.specs.Content.{Content, Post, joins}
 use Rattle.chart.specs.Drafting.{messageCalled, timesReceived, dispatched, delivered, withMessage, withReceipt, allBelow}
@@ -78,3 +78,9 @@ not-all-below p (suc n) m l fails =
     (λ (e : n ≡ m). ap (λ b. b && allBelow p n) (ap p e ∙ fails))
     (λ (e : n ≡ m → ⊥). and-right _ _ (not-all-below p n m (omega arith) fails))
     (cases-eq n m)
+
+pub each-below : (p : ℕ → Bool) (n m : ℕ) → allBelow p n ≡ true → m < n → p m ≡ true
+each-below p zero m all l = absurd (omega arith)
+each-below p (suc n) m all l =
+    let parts = and-parts (p n) (allBelow p n) all in
+    ⊎-elim (λ (e : n ≡ m). ap p (sym e) ∙ parts .0) (λ (e : n ≡ m → ⊥). each-below p n m (parts .1) (omega arith)) (cases-eq n m)

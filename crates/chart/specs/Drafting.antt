@@ -4,6 +4,8 @@ use mathlib.Core.List.{List, [], _∷_, _++_}
 use Prim.Native.Nat.{ℕ, zero, suc}
 use lib.Dec.{leb, eqb, ltb}
 use lib.ListN.{length}
+use Rattle.std.specs.declared.option.Option.{Option}
+use Rattle.std.specs.declared.option.Option.the-variants.{Some, None}
 use Rattle.std.specs.declared.result.Result.{Result}
 use Rattle.std.specs.declared.result.Result.the-variants.{Ok, Err}
 use Rattle.std.specs.shelf.Lists.{countBy}
@@ -52,6 +54,10 @@ allBelow p (suc n) = p n && allBelow p n
 
 abbrev pub allReceived : Content → Bool
 allReceived c = allBelow (λ m. ltb 0 (timesReceived c m)) (length (c .messages))
+
+-- the chart, if no message is left to be received
+abbrev pub finished : Content → Option Content
+finished c = cond (allReceived c) (Some c) None
 
 -- one instance more
 abbrev pub listed : Content → Text → Result Content InstanceRefusal

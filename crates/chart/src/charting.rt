@@ -12,7 +12,7 @@ use super::pieces::Parts;
 // A chart place: blank, or a chart that was accepted. No later call tests again what its ghost fields say.
 #[derive(Drop)]
 pub struct Chart {
-    parts: Parts,
+    pub(crate) parts: Parts,
     // only a blank place has neither title nor instance
     ghost titled: { isSome (parts .title) ≡ ltb 0 (vec-len (parts .instances)) },
     ghost few_instances: { vec-len (parts .instances) ≤ 16 },

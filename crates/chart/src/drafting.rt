@@ -8,6 +8,7 @@ ghost use Rattle.chart.specs.Content.{InstancesApart, MessagesApart, AllJoin, 
 ghost use Rattle.chart.specs.Shown.{contentOf};
 pub mod growing;
 pub mod consulting;
+pub mod finishing;
 use super::pieces::Parts;
 
 pub const INSTANCE_LIMIT: usize = 16;
