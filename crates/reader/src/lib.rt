@@ -1,0 +1,2 @@
+// Chart texts: from bytes to a chart, or to a refusal with its number and place.
+pub mod tokens;
