@@ -1,0 +1,36 @@
+-- What the code answers, without its references.
+use mathlib.Core.List.{List}
+use Prim.Native.Nat.{ℕ}
+use denote.Ref.{RefT}
+use Rattle.std.specs.declared.result.Result.{Result}
+use Rattle.std.specs.declared.result.Result.the-variants.{Ok, Err}
+use Rattle.chart.specs.Words.{Text}
+use Rattle.chart.specs.Names.{textOf}
+use Rattle.chart.specs.Content.{Content}
+use Rattle.chart.specs.declared.names.Name.{Name}
+use Rattle.chart.specs.declared.numbers.InstanceId.{InstanceId}
+use Rattle.chart.specs.declared.numbers.MessageId.{MessageId}
+use Rattle.reader.specs.Reading.{Outcome}
+use Rattle.reader.specs.declared.refusals.Refusal.{Refusal}
+
+abbrev pub nameRead : Outcome Name → Outcome Text
+nameRead (Ok n) = Ok (textOf n)
+nameRead (Err e) = Err e
+
+abbrev pub instanceRead : Outcome InstanceId → Outcome ℕ
+instanceRead (Ok i) = Ok (i .0)
+instanceRead (Err e) = Err e
+
+abbrev pub messageRead : Outcome MessageId → Outcome ℕ
+messageRead (Ok m) = Ok (m .0)
+messageRead (Err e) = Err e
+
+-- a draft, and what is left of the text
+abbrev pub lineRead : Outcome (RefT Text) → Content → Outcome (Content × Text)
+lineRead (Ok rest) c = Ok (c, rest .now)
+lineRead (Err e) c = Err e
+
+-- a draft alone
+abbrev pub draftRead : Outcome (Unit {0}) → Content → Outcome Content
+draftRead (Ok u) c = Ok c
+draftRead (Err e) c = Err e

@@ -1,0 +1,196 @@
+-- Reading a text from left to right: each token is judged before the next is looked at, so the first that does not
+-- fit gives the refusal and its place.
+use mathlib.Core.Bool.{Bool, cond}
+use mathlib.Core.List.{List, [], _∷_}
+use Prim.Native.Nat.{ℕ, zero, suc, _+_}
+use lib.Chars.{codes}
+use lib.Dec.{leb, ltb, eqb}
+use lib.ListN.{length, getD}
+use Rattle.std.specs.declared.option.Option.{Option}
+use Rattle.std.specs.declared.option.Option.the-variants.{Some, None}
+use Rattle.std.specs.declared.result.Result.{Result}
+use Rattle.std.specs.declared.result.Result.the-variants.{Ok, Err}
+use Rattle.std.specs.shelf.Text.{sameBytes}
+use Rattle.chart.specs.Words.{Text}
+use Rattle.chart.specs.Names.{judged}
+use Rattle.chart.specs.Lookup.{seek}
+use Rattle.chart.specs.Content.{Content, messageNames}
+use Rattle.chart.specs.Charted.{senderOf, receiverOf}
+use Rattle.chart.specs.Drafting.{begun, withMessage, withReceipt, messageCalled, timesReceived, allReceived, listed}
+use Rattle.chart.specs.declared.names.NameRefusal.{NameRefusal}
+use Rattle.chart.specs.declared.names.NameRefusal.the-variants.{NotAName, TooLong}
+use Rattle.chart.specs.declared.drafting.InstanceRefusal.{InstanceRefusal}
+use Rattle.chart.specs.declared.drafting.InstanceRefusal.the-variants as instance
+use Rattle.reader.specs.Lexemes.{Lexeme, word, semicolon, comma, colon, finish, stray, lexeme, left}
+use Rattle.reader.specs.declared.refusals.Refusal.{Refusal}
+use Rattle.reader.specs.declared.refusals.Refusal.the-variants.{TextTooLong, Unexpected, NameTooLong, TooManyInstances, NamedTwice, UnknownInstance, SentToItself, TooManyMessages, NotAsSent, NotReceived}
+
+-- what is read, or why not
+abbrev pub Outcome : Type 0 → Type 0
+Outcome X = Result X Refusal
+
+-- go on with what was read
+abbrev pub then : {X Y : Type 0} → Outcome X → (X → Outcome Y) → Outcome Y
+then (Ok x) f = f x
+then (Err e) f = Err e
+
+abbrev pub onWord : {Y : Type 0} → Lexeme → (Text → ℕ → Outcome Y) → Outcome Y
+onWord (word t p) f = f t p
+onWord (semicolon t p) f = Err (Unexpected p)
+onWord (comma t p) f = Err (Unexpected p)
+onWord (colon t p) f = Err (Unexpected p)
+onWord (finish p) f = Err (Unexpected p)
+onWord (stray p) f = Err (Unexpected p)
+
+abbrev pub onSemicolon : {Y : Type 0} → Lexeme → Outcome Y → Outcome Y
+onSemicolon (word t p) y = Err (Unexpected p)
+onSemicolon (semicolon t p) y = y
+onSemicolon (comma t p) y = Err (Unexpected p)
+onSemicolon (colon t p) y = Err (Unexpected p)
+onSemicolon (finish p) y = Err (Unexpected p)
+onSemicolon (stray p) y = Err (Unexpected p)
+
+abbrev pub onColon : {Y : Type 0} → Lexeme → Outcome Y → Outcome Y
+onColon (word t p) y = Err (Unexpected p)
+onColon (semicolon t p) y = Err (Unexpected p)
+onColon (comma t p) y = Err (Unexpected p)
+onColon (colon t p) y = y
+onColon (finish p) y = Err (Unexpected p)
+onColon (stray p) y = Err (Unexpected p)
+
+abbrev pub onEnd : {Y : Type 0} → Lexeme → Outcome Y → Outcome Y
+onEnd (word t p) y = Err (Unexpected p)
+onEnd (semicolon t p) y = Err (Unexpected p)
+onEnd (comma t p) y = Err (Unexpected p)
+onEnd (colon t p) y = Err (Unexpected p)
+onEnd (finish p) y = y
+onEnd (stray p) y = Err (Unexpected p)
+
+-- after a name of the list: a comma and more, or a semicolon
+abbrev pub onCommaOrSemicolon : {Y : Type 0} → Lexeme → Outcome Y → Outcome Y → Outcome Y
+onCommaOrSemicolon (word t p) more done = Err (Unexpected p)
+onCommaOrSemicolon (semicolon t p) more done = done
+onCommaOrSemicolon (comma t p) more done = more
+onCommaOrSemicolon (colon t p) more done = Err (Unexpected p)
+onCommaOrSemicolon (finish p) more done = Err (Unexpected p)
+onCommaOrSemicolon (stray p) more done = Err (Unexpected p)
+
+-- a word where a certain one is wanted
+abbrev pub wanted : {Y : Type 0} → Text → Text → ℕ → Outcome Y → Outcome Y
+wanted w t p y = cond (sameBytes t w) y (Err (Unexpected p))
+
+-- a word where a name is wanted
+abbrev pub noName : NameRefusal → ℕ → Refusal
+noName NotAName p = Unexpected p
+noName TooLong p = NameTooLong p
+
+abbrev pub nameBy : ℕ → Result Text NameRefusal → Outcome Text
+nameBy p (Ok t) = Ok t
+nameBy p (Err e) = Err (noName e p)
+
+abbrev pub nameAt : Text → ℕ → Outcome Text
+nameAt t p = nameBy p (judged t)
+
+-- a word where an instance of the list is wanted
+abbrev pub knownBy : ℕ → Option ℕ → Outcome ℕ
+knownBy p None = Err (UnknownInstance p)
+knownBy p (Some i) = Ok i
+
+abbrev pub instanceAt : Content → Text → ℕ → Outcome ℕ
+instanceAt c t p = then (nameAt t p) (λ u. knownBy p (seek (λ x. x) u (c .instances)))
+
+-- a further name of the list
+abbrev pub listedBy : ℕ → Result Content InstanceRefusal → Outcome Content
+listedBy p (Ok c) = Ok c
+listedBy p (Err instance.TooMany) = Err (TooManyInstances p)
+listedBy p (Err instance.NamedTwice) = Err (NamedTwice p)
+
+abbrev pub furtherAt : Content → Text → ℕ → Outcome Content
+furtherAt c t p = then (nameAt t p) (λ u. listedBy p (listed c u))
+
+-- an out line's message
+abbrev pub newMessageAt : Content → Text → ℕ → Outcome Text
+newMessageAt c t p =
+    then (nameAt t p) (λ u. cond (messageCalled c u) (Err (NamedTwice p)) (cond (leb 64 (length (c .messages))) (Err (TooManyMessages p)) (Ok u)))
+
+-- an out line's receiver
+abbrev pub receiverAt : Content → ℕ → Text → ℕ → Outcome ℕ
+receiverAt c s t p = then (instanceAt c t p) (λ r. cond (eqb s r) (Err (SentToItself p)) (Ok r))
+
+-- an in line's message
+abbrev pub sentBy : Content → ℕ → ℕ → Option ℕ → Outcome ℕ
+sentBy c r p None = Err (NotAsSent p)
+sentBy c r p (Some m) = cond (ltb 0 (timesReceived c m)) (Err (NotAsSent p)) (cond (eqb (receiverOf c m) r) (Ok m) (Err (NotAsSent p)))
+
+abbrev pub sentMessageAt : Content → ℕ → Text → ℕ → Outcome ℕ
+sentMessageAt c r t p = then (nameAt t p) (λ u. sentBy c r p (seek (λ x. x) u (messageNames c)))
+
+-- an in line's sender
+abbrev pub senderAt : Content → ℕ → Text → ℕ → Outcome ℕ
+senderAt c m t p = then (instanceAt c t p) (λ s. cond (eqb (senderOf c m) s) (Ok s) (Err (NotAsSent p)))
+
+-- below, n is the length of the text and bs what is left of it; what is read comes with what is left after it
+
+-- the rest of an out line at s, past `out`
+abbrev pub outLine : ℕ → Content → ℕ → Text → Outcome (Content × Text)
+outLine n c s bs =
+    onWord (lexeme n bs) (λ t p. then (newMessageAt c t p) (λ u.
+    let bs₁ = left bs in onWord (lexeme n bs₁) (λ t₁ p₁. wanted (codes "to") t₁ p₁ (
+    let bs₂ = left bs₁ in onWord (lexeme n bs₂) (λ t₂ p₂. then (receiverAt c s t₂ p₂) (λ r.
+    let bs₃ = left bs₂ in onSemicolon (lexeme n bs₃) (Ok (withMessage c u s r, left bs₃))))))))
+
+-- the rest of an in line at r, past `in`
+abbrev pub inLine : ℕ → Content → ℕ → Text → Outcome (Content × Text)
+inLine n c r bs =
+    onWord (lexeme n bs) (λ t p. then (sentMessageAt c r t p) (λ m.
+    let bs₁ = left bs in onWord (lexeme n bs₁) (λ t₁ p₁. wanted (codes "from") t₁ p₁ (
+    let bs₂ = left bs₁ in onWord (lexeme n bs₂) (λ t₂ p₂. then (senderAt c m t₂ p₂) (λ s.
+    let bs₃ = left bs₂ in onSemicolon (lexeme n bs₃) (Ok (withReceipt c m, left bs₃))))))))
+
+-- the rest of an event line at instance i, past its name
+abbrev pub eventLine : ℕ → Content → ℕ → Text → Outcome (Content × Text)
+eventLine n c i bs =
+    onColon (lexeme n bs) (
+    let bs₁ = left bs in onWord (lexeme n bs₁) (λ t p.
+    cond (sameBytes t (codes "out")) (outLine n c i (left bs₁)) (wanted (codes "in") t p (inLine n c i (left bs₁)))))
+
+-- event lines up to `endmsc`, with its place; each line takes a byte, so f only has to be large enough
+abbrev pub linesFrom : ℕ → ℕ → Content → Text → Outcome (Content × ℕ × Text)
+linesFrom zero n c bs = Err TextTooLong
+linesFrom (suc f) n c bs =
+    onWord (lexeme n bs) (λ t p.
+    cond (sameBytes t (codes "endmsc")) (Ok (c, p, left bs))
+    (then (instanceAt c t p) (λ i. then (eventLine n c i (left bs)) (λ r. linesFrom f n (r .0) (r .1)))))
+
+-- the rest of the list of instances, past its first name
+abbrev pub instancesFrom : ℕ → ℕ → Content → Text → Outcome (Content × Text)
+instancesFrom zero n c bs = Err TextTooLong
+instancesFrom (suc f) n c bs =
+    onCommaOrSemicolon (lexeme n bs)
+    (let bs₁ = left bs in onWord (lexeme n bs₁) (λ t p. then (furtherAt c t p) (λ d. instancesFrom f n d (left bs₁))))
+    (Ok (c, left bs))
+
+-- `msc` name `;` `inst` name
+abbrev pub heading : ℕ → Text → Outcome (Text × Text × Text)
+heading n bs =
+    onWord (lexeme n bs) (λ t p. wanted (codes "msc") t p (
+    let bs₁ = left bs in onWord (lexeme n bs₁) (λ t₁ p₁. then (nameAt t₁ p₁) (λ title.
+    let bs₂ = left bs₁ in onSemicolon (lexeme n bs₂) (
+    let bs₃ = left bs₂ in onWord (lexeme n bs₃) (λ t₃ p₃. wanted (codes "inst") t₃ p₃ (
+    let bs₄ = left bs₃ in onWord (lexeme n bs₄) (λ t₄ p₄. then (nameAt t₄ p₄) (λ first.
+    Ok (title, first, left bs₄))))))))))
+
+-- past `endmsc`: a semicolon, and then blanks only
+abbrev pub ending : ℕ → Content → Text → Outcome Content
+ending n c bs = onSemicolon (lexeme n bs) (onEnd (lexeme n (left bs)) (Ok c))
+
+abbrev pub chartFrom : ℕ → Text → Outcome Content
+chartFrom n bs =
+    then (heading n bs) (λ h.
+    then (instancesFrom (suc n) n (begun (h .0) (h .1)) (h .2)) (λ i.
+    then (linesFrom (suc n) n (i .0) (i .1)) (λ l.
+    cond (allReceived (l .0)) (ending n (l .0) (l .2)) (Err (NotReceived (l .1))))))
+
+-- the chart that a text gives, or why it comes back
+abbrev pub reading : Text → Outcome Content
+reading bs = cond (ltb 16384 (length bs)) (Err TextTooLong) (chartFrom (length bs) bs)
