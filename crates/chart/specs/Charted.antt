@@ -1,12 +1,11 @@
 -- What a chart says.
 use mathlib.Core.Bool.{cond}
-use mathlib.Core.List.{[]}
 use Prim.Native.Nat.{ℕ}
 use lib.Dec.{ltb}
 use lib.ListN.{length, getD}
 use Rattle.std.specs.declared.option.Option.{Option}
 use Rattle.std.specs.declared.option.Option.the-variants.{Some, None}
-use Rattle.chart.specs.Content.{Content, Happening, sent, received, Post}
+use Rattle.chart.specs.Content.{Content, Happening, sent, received, senderOf, receiverOf}
 use Rattle.chart.specs.Shown.{contentOf}
 use Rattle.chart.specs.declared.charting.Chart.{Chart}
 use Rattle.chart.specs.declared.charting.asking.Line.{Line}
@@ -14,15 +13,6 @@ use Rattle.chart.specs.declared.pieces.Side.the-variants as side
 
 abbrev pub content : Chart → Content
 content c = contentOf (c .parts)
-
-abbrev pub nobody : Post
-nobody = record { name = []; sender = 0; receiver = 0 }
-
-abbrev pub senderOf : Content → ℕ → ℕ
-senderOf c m = getD (c .messages) m nobody .sender
-
-abbrev pub receiverOf : Content → ℕ → ℕ
-receiverOf c m = getD (c .messages) m nobody .receiver
 
 -- a message is sent at its sender and received at its receiver
 abbrev pub drawn : Content → Happening → Line

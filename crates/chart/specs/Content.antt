@@ -34,6 +34,15 @@ pub record Content : Type 0 where
 abbrev pub nothing : Content
 nothing = record { title = []; instances = []; messages = []; events = [] }
 
+abbrev pub nobody : Post
+nobody = record { name = []; sender = 0; receiver = 0 }
+
+abbrev pub senderOf : Content → ℕ → ℕ
+senderOf c m = getD (c .messages) m nobody .sender
+
+abbrev pub receiverOf : Content → ℕ → ℕ
+receiverOf c m = getD (c .messages) m nobody .receiver
+
 abbrev pub isSending : Happening → Bool
 isSending (sent m) = true
 isSending (received m) = false

@@ -9,7 +9,7 @@ use Rattle.chart.specs.Names.{textOf}
 use Rattle.chart.specs.Content.{Content}
 use Rattle.chart.specs.declared.names.Name.{Name}
 use Rattle.chart.specs.declared.numbers.InstanceId.{InstanceId}
-use Rattle.chart.specs.declared.numbers.MessageId.{MessageId}
+use Rattle.chart.specs.declared.drafting.consulting.Sent.{Sent}
 use Rattle.reader.specs.Reading.{Outcome}
 use Rattle.reader.specs.declared.refusals.Refusal.{Refusal}
 
@@ -21,8 +21,8 @@ abbrev pub instanceRead : Outcome InstanceId → Outcome ℕ
 instanceRead (Ok i) = Ok (i .0)
 instanceRead (Err e) = Err e
 
-abbrev pub messageRead : Outcome MessageId → Outcome ℕ
-messageRead (Ok m) = Ok (m .0)
+abbrev pub messageRead : Outcome Sent → Outcome ℕ
+messageRead (Ok m) = Ok (m .number .0)
 messageRead (Err e) = Err e
 
 -- a draft, and what is left of the text

@@ -14,8 +14,7 @@ use Rattle.std.specs.shelf.Text.{sameBytes}
 use Rattle.chart.specs.Words.{Text}
 use Rattle.chart.specs.Names.{judged}
 use Rattle.chart.specs.Lookup.{seek}
-use Rattle.chart.specs.Content.{Content, messageNames}
-use Rattle.chart.specs.Charted.{senderOf, receiverOf}
+use Rattle.chart.specs.Content.{Content, messageNames, senderOf, receiverOf}
 use Rattle.chart.specs.Drafting.{begun, withMessage, withReceipt, messageCalled, timesReceived, allReceived, listed}
 use Rattle.chart.specs.declared.names.NameRefusal.{NameRefusal}
 use Rattle.chart.specs.declared.names.NameRefusal.the-variants.{NotAName, TooLong}
@@ -125,9 +124,9 @@ sentBy c r p (Some m) = cond (ltb 0 (timesReceived c m)) (Err (NotAsSent p)) (co
 abbrev pub sentMessageAt : Content → ℕ → Text → ℕ → Outcome ℕ
 sentMessageAt c r t p = then (nameAt t p) (λ u. sentBy c r p (seek (λ x. x) u (messageNames c)))
 
--- an in line's sender
-abbrev pub senderAt : Content → ℕ → Text → ℕ → Outcome ℕ
-senderAt c m t p = then (instanceAt c t p) (λ s. cond (eqb (senderOf c m) s) (Ok s) (Err (NotAsSent p)))
+-- an in line's sender, which has to be s
+abbrev pub senderIs : Content → ℕ → Text → ℕ → Outcome (Unit {0})
+senderIs c s t p = then (instanceAt c t p) (λ i. cond (eqb i s) (Ok tt) (Err (NotAsSent p)))
 
 -- below, n is the length of the text and bs what is left of it; what is read comes with what is left after it
 
@@ -144,7 +143,7 @@ abbrev pub inLine : ℕ → Content → ℕ → Text → Outcome (Content × Tex
 inLine n c r bs =
     onWord (lexeme n bs) (λ t p. then (sentMessageAt c r t p) (λ m.
     let bs₁ = left bs in onWord (lexeme n bs₁) (λ t₁ p₁. wanted (codes "from") t₁ p₁ (
-    let bs₂ = left bs₁ in onWord (lexeme n bs₂) (λ t₂ p₂. then (senderAt c m t₂ p₂) (λ s.
+    let bs₂ = left bs₁ in onWord (lexeme n bs₂) (λ t₂ p₂. then (senderIs c (senderOf c m) t₂ p₂) (λ _.
     let bs₃ = left bs₂ in onSemicolon (lexeme n bs₃) (Ok (withReceipt c m, left bs₃))))))))
 
 -- the rest of an event line at instance i, past its name

@@ -1,20 +1,24 @@
 // The lines of a chart text, token by token.
 ghost use mathlib.Core.Path.{_≡_};
+ghost use Prim.Native.Nat.{_<_};
+ghost use lib.ListN.{length};
+ghost use Rattle.std.specs.Vec.{made};
+ghost use Rattle.chart.specs.Content.{senderOf};
 ghost use Rattle.chart.specs.Drafted.{drafted};
 ghost use Rattle.chart.specs.Names.{textOf};
 ghost use Rattle.reader.specs.Answers.{nameRead, instanceRead, messageRead, lineRead, draftRead};
 ghost use Rattle.reader.specs.Lexemes.{seen, placeOf};
-ghost use Rattle.reader.specs.Reading.{noName, nameAt, instanceAt, furtherAt, newMessageAt, receiverAt, sentMessageAt, senderAt, outLine, inLine, eventLine};
+ghost use Rattle.reader.specs.Reading.{noName, nameAt, instanceAt, furtherAt, newMessageAt, receiverAt, sentMessageAt, senderIs, outLine, inLine, eventLine};
 ghost use Rattle.reader.specs.declared.refusals.Refusal.the-variants.{Unexpected};
 use super::refusals::Refusal;
 use super::tokens::next_token;
 use super::tokens::Token;
+use chart::drafting::consulting::Sent;
 use chart::drafting::Draft;
 use chart::drafting::InstanceRefusal;
 use chart::names::Name;
 use chart::names::NameRefusal;
 use chart::numbers::InstanceId;
-use chart::numbers::MessageId;
 use chart::words::same_text;
 use chart::numbers::InstanceIdPartialEq;
 
@@ -95,4 +99,61 @@ fn receiver(draft: &Draft, sender: InstanceId, word: &[u8], at: usize) -> Result
         return Err(Refusal::SentToItself { at });
     }
     Ok(receiver)
+}
+
+// An in line's message, which was sent to this receiver and not received before.
+fn sent_message(draft: &Draft, receiver: InstanceId, word: &[u8], at: usize) -> Result<Sent, Refusal>
+    ensures number { λ r. ⌜ messageRead r ≡ sentMessageAt (drafted (now (draft .entry))) (receiver .0) (now (word .entry)) at ⌝ }
+    ensures sender { λ r. ⌜ made r (λ m. m .sender .0 ≡ senderOf (drafted (now (draft .entry))) (m .number .0)) ⌝ }
+{
+    let name = name_at(word, at)?;
+    let Some(message) = draft.find_message(name.text()) else {
+        return Err(Refusal::NotAsSent { at });
+    };
+    if draft.is_received(message.number) || message.receiver != receiver {
+        return Err(Refusal::NotAsSent { at });
+    }
+    Ok(message)
+}
+
+// An in line's sender.
+fn check_sender(draft: &Draft, sender: InstanceId, word: &[u8], at: usize) -> Result<(), Refusal>
+    ensures { λ r. ⌜ r ≡ senderIs (drafted (now (draft .entry))) (sender .0) (now (word .entry)) at ⌝ }
+{
+    if instance_at(draft, word, at)? != sender {
+        return Err(Refusal::NotAsSent { at });
+    }
+    Ok(())
+}
+
+// The rest of an out line, past `out`.
+fn out_line<'a>(draft: &mut Draft, sender: InstanceId, rest: &'a [u8], whole: usize) -> Result<&'a [u8], Refusal>
+    requires { ⌜ sender .0 < length (drafted (now draft) .instances) ⌝ }
+    ensures { λ r. ⌜ lineRead r (drafted (now (draft .exit))) ≡ outLine whole (drafted (now (draft .entry))) (sender .0) (now (rest .entry)) ⌝ }
+{
+    let (token, rest) = next_token(rest, whole);
+    let Token::Word(word, at) = token else {
+        return Err(unwanted(&token));
+    };
+    let name = new_message(draft, word, at)?;
+    let (token, rest) = next_token(rest, whole);
+    let Token::Word(word, at) = token else {
+        return Err(unwanted(&token));
+    };
+    if !same_text(word, b"to") {
+        return Err(Refusal::Unexpected { at });
+    }
+    let (token, rest) = next_token(rest, whole);
+    let Token::Word(word, at) = token else {
+        return Err(unwanted(&token));
+    };
+    let receiver = receiver(draft, sender, word, at)?;
+    let (token, rest) = next_token(rest, whole);
+    let Token::Semicolon(..) = token else {
+        return Err(unwanted(&token));
+    };
+    let Ok(_) = draft.send(name, sender, receiver) else {
+        unreachable()
+    };
+    Ok(rest)
 }

@@ -1,26 +1,31 @@
 // What a draft has so far.
 ghost use mathlib.Core.Path.{_≡_};
 ghost use mathlib.Core.List.{map};
-ghost use Prim.Native.Nat.{ℕ};
 ghost use lib.Dec.{ltb};
-ghost use lib.ListN.{length, getD};
+ghost use lib.ListN.{length};
 ghost use Rattle.std.specs.Options.{mapped, Cases};
-ghost use Rattle.std.specs.declared.option.Option.the-variants.{Some, None};
 ghost use Rattle.std.specs.shelf.Lists.{countBy};
-ghost use Rattle.chart.specs.Content.{isReceived, Post, messageNames};
+ghost use Rattle.chart.specs.Content.{isReceived, messageNames, senderOf, receiverOf};
 ghost use Rattle.chart.specs.Drafted.{drafted};
 ghost use Rattle.chart.specs.Drafting.{timesReceived, allReceived};
 ghost use Rattle.chart.specs.Lookup.{seek};
-ghost use Rattle.chart.specs.Shown.{happening, post};
+ghost use Rattle.chart.specs.Shown.{happening};
 use super::Draft;
 use super::super::lookup::find;
 use super::super::numbers::InstanceId;
 use super::super::numbers::MessageId;
 use super::super::numbers::MessageIdPartialEq;
 use super::super::pieces::Event;
-use super::super::pieces::Message;
 use crate::lookup::MessageNamed;
 use crate::lookup::NameNamed;
+
+// A message that was sent.
+#[derive(Clone, Copy)]
+pub struct Sent {
+    pub number: MessageId,
+    pub sender: InstanceId,
+    pub receiver: InstanceId,
+}
 
 fn receives(event: Event, message: MessageId) -> bool
     ensures { λ r. ⌜ r ≡ isReceived (message .0) (happening event) ⌝ }
@@ -52,15 +57,17 @@ impl Draft {
         Some(InstanceId(place as u16))
     }
 
-    // The message of this name, with its number.
-    pub fn find_message(&self, text: &[u8]) -> Option<(MessageId, Message)>
-        ensures number { λ r. ⌜ mapped (λ p. p .0 .0) r ≡ seek (λ x. x) (now (text .entry)) (messageNames (drafted (now (self .entry)))) ⌝ }
-        ensures message { λ r. ⌜ Cases r (Unit {0}) (λ p. (d : Post) → post (p .1) ≡ getD (drafted (now (self .entry)) .messages) (p .0 .0) d) ⌝ }
+    // The message of this name.
+    pub fn find_message(&self, text: &[u8]) -> Option<Sent>
+        ensures number { λ r. ⌜ mapped (λ p. p .number .0) r ≡ seek (λ x. x) (now (text .entry)) (messageNames (drafted (now (self .entry)))) ⌝ }
+        ensures sender { λ r. ⌜ Cases r (Unit {0}) (λ p. p .sender .0 ≡ senderOf (drafted (now (self .entry))) (p .number .0)) ⌝ }
+        ensures receiver { λ r. ⌜ Cases r (Unit {0}) (λ p. p .receiver .0 ≡ receiverOf (drafted (now (self .entry))) (p .number .0)) ⌝ }
     {
         let Some(place) = find(&self.parts.messages, text) else {
             return None;
         };
-        Some((MessageId(place as u16), self.parts.messages[place]))
+        let message = &self.parts.messages[place];
+        Some(Sent { number: MessageId(place as u16), sender: message.sender, receiver: message.receiver })
     }
 
     pub fn message_count(&self) -> usize

@@ -5,8 +5,8 @@ use lib.ListN.{getD}
 use Rattle.std.specs.Of.Vec.{vec-items, vec-len}
 use Rattle.std.specs.declared.option.Option.the-variants.{Some, None}
 use Rattle.std.proofs.shelf.Tests.{cond-true, cond-false, lt-ltb, le-ltb}
-use Rattle.chart.specs.Charted.{lineOf, drawn, nobody}
-use Rattle.chart.specs.Content.{Inside, Post, sent, messageOf}
+use Rattle.chart.specs.Charted.{lineOf, drawn}
+use Rattle.chart.specs.Content.{Inside, Post, nobody, sent, messageOf}
 use Rattle.chart.specs.Pieces.{messageNumber}
 use Rattle.chart.specs.Shown.{contentOf, happening}
 use Rattle.chart.specs.declared.charting.asking.Line.{Line}
