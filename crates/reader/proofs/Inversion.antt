@@ -10,11 +10,12 @@ use Rattle.std.specs.declared.option.Option.{Option}
 use Rattle.std.specs.declared.option.Option.the-variants.{Some, None}
 use Rattle.std.specs.declared.result.Result.{Result}
 use Rattle.std.specs.declared.result.Result.the-variants.{Ok, Err}
-use Rattle.std.proofs.shelf.Tests.{cond-true, cond-false, leb-false, eqb-false, ltb-false}
+use Rattle.std.proofs.shelf.Tests.{cond-true, cond-false, leb-false, eqb-true, eqb-false}
+use Rattle.std.proofs.shelf.Lists.{length-map}
 use Rattle.chart.specs.Words.{Text}
 use Rattle.chart.specs.Names.{judged}
 use Rattle.chart.specs.Lookup.{seek}
-use Rattle.chart.specs.Content.{Content, messageNames, senderOf, receiverOf}
+use Rattle.chart.specs.Content.{Content, Post, messageNames, senderOf, receiverOf}
 use Rattle.chart.specs.Drafting.{messageCalled, timesReceived, dispatched, delivered, withMessage, withReceipt}
 use Rattle.chart.proofs.Seeking.{seek-inside}
 use Rattle.reader.specs.Reading.{Outcome, then, nameAt, knownBy, instanceAt, newMessageAt, receiverAt, sentBy, sentMessageAt, senderIs}
@@ -66,3 +67,23 @@ new-message-ok c t p u h =
     let d = fails (leb 64 (length (c .messages))) _ (Ok (a .0)) u (b .1) in
     let e = same-ok (a .0) u (d .1) in
     (a .1 ∙ ap Ok e, ap (messageCalled c) (sym e) ∙ b .0, leb-false 64 _ (d .0))
+
+sent-by-ok : (c : Content) (r p : ℕ) (o : Option ℕ) (m : ℕ) → sentBy c r p o ≡ Ok m → (o ≡ Some m) × (ltb 0 (timesReceived c m) ≡ false) × (receiverOf c m ≡ r)
+sent-by-ok c r p None m h = refused _ m _ h
+sent-by-ok c r p (Some k) m h =
+    let a = fails (ltb 0 (timesReceived c k)) _ (cond (eqb (receiverOf c k) r) (Ok k) (Err _)) m h in
+    let b = passes (eqb (receiverOf c k) r) _ (Ok k) m (a .1) in
+    let e = same-ok k m (b .1) in
+    (ap Some e, ap (λ n. ltb 0 (timesReceived c n)) (sym e) ∙ a .0, ap (receiverOf c) (sym e) ∙ eqb-true _ r (b .0))
+
+-- an in line's message: sent, not received yet, and to this receiver
+pub sent-message-all : (c : Content) (r : ℕ) (t : Text) (p m : ℕ) → sentMessageAt c r t p ≡ Ok m → (u : Text) × (nameAt t p ≡ Ok u) × (seek (λ x. x) u (messageNames c) ≡ Some m) × (ltb 0 (timesReceived c m) ≡ false) × (receiverOf c m ≡ r)
+sent-message-all c r t p m h =
+    let a = then-ok (nameAt t p) (λ u. sentBy c r p (seek (λ x. x) u (messageNames c))) m h in
+    let b = sent-by-ok c r p _ m (a .2) in
+    (a .0, a .1, b .0, b .1, b .2)
+
+pub sent-message-ok : (c : Content) (r : ℕ) (t : Text) (p m : ℕ) → sentMessageAt c r t p ≡ Ok m → (m < length (c .messages)) × (ltb 0 (timesReceived c m) ≡ false)
+sent-message-ok c r t p m h =
+    let a = sent-message-all c r t p m h in
+    (omega (arith, seek-inside (λ x. x) (a .0) (messageNames c) m (a .2), length-map (c .messages) (λ (q : Post). q .name)), a .3)

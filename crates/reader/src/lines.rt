@@ -157,3 +157,56 @@ fn out_line<'a>(draft: &mut Draft, sender: InstanceId, rest: &'a [u8], whole: us
     };
     Ok(rest)
 }
+
+// The rest of an in line, past `in`.
+fn in_line<'a>(draft: &mut Draft, receiver: InstanceId, rest: &'a [u8], whole: usize) -> Result<&'a [u8], Refusal>
+    ensures { λ r. ⌜ lineRead r (drafted (now (draft .exit))) ≡ inLine whole (drafted (now (draft .entry))) (receiver .0) (now (rest .entry)) ⌝ }
+{
+    let (token, rest) = next_token(rest, whole);
+    let Token::Word(word, at) = token else {
+        return Err(unwanted(&token));
+    };
+    let message = sent_message(draft, receiver, word, at)?;
+    let (token, rest) = next_token(rest, whole);
+    let Token::Word(word, at) = token else {
+        return Err(unwanted(&token));
+    };
+    if !same_text(word, b"from") {
+        return Err(Refusal::Unexpected { at });
+    }
+    let (token, rest) = next_token(rest, whole);
+    let Token::Word(word, at) = token else {
+        return Err(unwanted(&token));
+    };
+    check_sender(draft, message.sender, word, at)?;
+    let (token, rest) = next_token(rest, whole);
+    let Token::Semicolon(..) = token else {
+        return Err(unwanted(&token));
+    };
+    let Ok(()) = draft.receive(message.number) else {
+        unreachable()
+    };
+    Ok(rest)
+}
+
+// The rest of an event line, past the name of its instance.
+fn event_line<'a>(draft: &mut Draft, instance: InstanceId, rest: &'a [u8], whole: usize) -> Result<&'a [u8], Refusal>
+    requires { ⌜ instance .0 < length (drafted (now draft) .instances) ⌝ }
+    ensures { λ r. ⌜ lineRead r (drafted (now (draft .exit))) ≡ eventLine whole (drafted (now (draft .entry))) (instance .0) (now (rest .entry)) ⌝ }
+{
+    let (token, rest) = next_token(rest, whole);
+    let Token::Colon(..) = token else {
+        return Err(unwanted(&token));
+    };
+    let (token, rest) = next_token(rest, whole);
+    let Token::Word(word, at) = token else {
+        return Err(unwanted(&token));
+    };
+    if same_text(word, b"out") {
+        return out_line(draft, instance, rest, whole);
+    }
+    if same_text(word, b"in") {
+        return in_line(draft, instance, rest, whole);
+    }
+    Err(Refusal::Unexpected { at })
+}
