@@ -34,3 +34,12 @@ lineRead (Err e) c = Err e
 abbrev pub draftRead : Outcome (Unit {0}) → Content → Outcome Content
 draftRead (Ok u) c = Ok c
 draftRead (Err e) c = Err e
+
+abbrev pub restRead : Outcome (RefT Text) → Outcome Text
+restRead (Ok rest) = Ok (rest .now)
+restRead (Err e) = Err e
+
+-- a draft, the place of `endmsc`, and what is left of the text
+abbrev pub linesRead : Outcome (ℕ × RefT Text) → Content → Outcome (Content × ℕ × Text)
+linesRead (Ok p) c = Ok (c, p .0, p .1 .now)
+linesRead (Err e) c = Err e

@@ -74,10 +74,6 @@ onCommaOrSemicolon (colon t p) more done = Err (Unexpected p)
 onCommaOrSemicolon (finish p) more done = Err (Unexpected p)
 onCommaOrSemicolon (stray p) more done = Err (Unexpected p)
 
--- a word where a certain one is wanted
-abbrev pub wanted : {Y : Type 0} → Text → Text → ℕ → Outcome Y → Outcome Y
-wanted w t p y = cond (sameBytes t w) y (Err (Unexpected p))
-
 -- a word where a name is wanted
 abbrev pub noName : NameRefusal → ℕ → Refusal
 noName NotAName p = Unexpected p
@@ -130,28 +126,34 @@ senderIs c s t p = then (instanceAt c t p) (λ i. cond (eqb i s) (Ok tt) (Err (N
 
 -- below, n is the length of the text and bs what is left of it; what is read comes with what is left after it
 
+abbrev pub keywordFrom : Text → ℕ → Text → Outcome Text
+keywordFrom w n bs = onWord (lexeme n bs) (λ t p. cond (sameBytes t w) (Ok (left bs)) (Err (Unexpected p)))
+
+abbrev pub semicolonFrom : ℕ → Text → Outcome Text
+semicolonFrom n bs = onSemicolon (lexeme n bs) (Ok (left bs))
+
 -- the rest of an out line at s, past `out`
 abbrev pub outLine : ℕ → Content → ℕ → Text → Outcome (Content × Text)
 outLine n c s bs =
     onWord (lexeme n bs) (λ t p. then (newMessageAt c t p) (λ u.
-    let bs₁ = left bs in onWord (lexeme n bs₁) (λ t₁ p₁. wanted (codes "to") t₁ p₁ (
-    let bs₂ = left bs₁ in onWord (lexeme n bs₂) (λ t₂ p₂. then (receiverAt c s t₂ p₂) (λ r.
-    let bs₃ = left bs₂ in onSemicolon (lexeme n bs₃) (Ok (withMessage c u s r, left bs₃))))))))
+    then (keywordFrom (codes "to") n (left bs)) (λ bs₁.
+    onWord (lexeme n bs₁) (λ t₁ p₁. then (receiverAt c s t₁ p₁) (λ r.
+    then (semicolonFrom n (left bs₁)) (λ bs₂. Ok (withMessage c u s r, bs₂)))))))
 
 -- the rest of an in line at r, past `in`
 abbrev pub inLine : ℕ → Content → ℕ → Text → Outcome (Content × Text)
 inLine n c r bs =
     onWord (lexeme n bs) (λ t p. then (sentMessageAt c r t p) (λ m.
-    let bs₁ = left bs in onWord (lexeme n bs₁) (λ t₁ p₁. wanted (codes "from") t₁ p₁ (
-    let bs₂ = left bs₁ in onWord (lexeme n bs₂) (λ t₂ p₂. then (senderIs c (senderOf c m) t₂ p₂) (λ _.
-    let bs₃ = left bs₂ in onSemicolon (lexeme n bs₃) (Ok (withReceipt c m, left bs₃))))))))
+    then (keywordFrom (codes "from") n (left bs)) (λ bs₁.
+    onWord (lexeme n bs₁) (λ t₁ p₁. then (senderIs c (senderOf c m) t₁ p₁) (λ _.
+    then (semicolonFrom n (left bs₁)) (λ bs₂. Ok (withReceipt c m, bs₂)))))))
 
 -- the rest of an event line at instance i, past its name
 abbrev pub eventLine : ℕ → Content → ℕ → Text → Outcome (Content × Text)
 eventLine n c i bs =
-    onColon (lexeme n bs) (
-    let bs₁ = left bs in onWord (lexeme n bs₁) (λ t p.
-    cond (sameBytes t (codes "out")) (outLine n c i (left bs₁)) (wanted (codes "in") t p (inLine n c i (left bs₁)))))
+    onColon (lexeme n bs) (onWord (lexeme n (left bs)) (λ t p.
+    cond (sameBytes t (codes "out")) (outLine n c i (left (left bs)))
+    (cond (sameBytes t (codes "in")) (inLine n c i (left (left bs))) (Err (Unexpected p)))))
 
 -- event lines up to `endmsc`, with its place; each line takes a byte, so f only has to be large enough
 abbrev pub linesFrom : ℕ → ℕ → Content → Text → Outcome (Content × ℕ × Text)
@@ -166,29 +168,24 @@ abbrev pub instancesFrom : ℕ → ℕ → Content → Text → Outcome (Content
 instancesFrom zero n c bs = Err TextTooLong
 instancesFrom (suc f) n c bs =
     onCommaOrSemicolon (lexeme n bs)
-    (let bs₁ = left bs in onWord (lexeme n bs₁) (λ t p. then (furtherAt c t p) (λ d. instancesFrom f n d (left bs₁))))
+    (onWord (lexeme n (left bs)) (λ t p. then (furtherAt c t p) (λ d. instancesFrom f n d (left (left bs)))))
     (Ok (c, left bs))
 
--- `msc` name `;` `inst` name
-abbrev pub heading : ℕ → Text → Outcome (Text × Text × Text)
-heading n bs =
-    onWord (lexeme n bs) (λ t p. wanted (codes "msc") t p (
-    let bs₁ = left bs in onWord (lexeme n bs₁) (λ t₁ p₁. then (nameAt t₁ p₁) (λ title.
-    let bs₂ = left bs₁ in onSemicolon (lexeme n bs₂) (
-    let bs₃ = left bs₂ in onWord (lexeme n bs₃) (λ t₃ p₃. wanted (codes "inst") t₃ p₃ (
-    let bs₄ = left bs₃ in onWord (lexeme n bs₄) (λ t₄ p₄. then (nameAt t₄ p₄) (λ first.
-    Ok (title, first, left bs₄))))))))))
-
 -- past `endmsc`: a semicolon, and then blanks only
-abbrev pub ending : ℕ → Content → Text → Outcome Content
-ending n c bs = onSemicolon (lexeme n bs) (onEnd (lexeme n (left bs)) (Ok c))
+abbrev pub ending : ℕ → Text → Outcome (Unit {0})
+ending n bs = then (semicolonFrom n bs) (λ bs₁. onEnd (lexeme n bs₁) (Ok tt))
 
+-- `msc` title `;` `inst` first name, further names, event lines, `endmsc` `;`
 abbrev pub chartFrom : ℕ → Text → Outcome Content
 chartFrom n bs =
-    then (heading n bs) (λ h.
-    then (instancesFrom (suc n) n (begun (h .0) (h .1)) (h .2)) (λ i.
+    then (keywordFrom (codes "msc") n bs) (λ bs₁.
+    onWord (lexeme n bs₁) (λ t₁ p₁. then (nameAt t₁ p₁) (λ title.
+    then (semicolonFrom n (left bs₁)) (λ bs₂.
+    then (keywordFrom (codes "inst") n bs₂) (λ bs₃.
+    onWord (lexeme n bs₃) (λ t₃ p₃. then (nameAt t₃ p₃) (λ first.
+    then (instancesFrom (suc n) n (begun title first) (left bs₃)) (λ i.
     then (linesFrom (suc n) n (i .0) (i .1)) (λ l.
-    cond (allReceived (l .0)) (ending n (l .0) (l .2)) (Err (NotReceived (l .1))))))
+    cond (allReceived (l .0)) (then (ending n (l .2)) (λ _. Ok (l .0))) (Err (NotReceived (l .1)))))))))))) 
 
 -- the chart that a text gives, or why it comes back
 abbrev pub reading : Text → Outcome Content

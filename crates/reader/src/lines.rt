@@ -6,9 +6,9 @@ ghost use Rattle.std.specs.Vec.{made};
 ghost use Rattle.chart.specs.Content.{senderOf};
 ghost use Rattle.chart.specs.Drafted.{drafted};
 ghost use Rattle.chart.specs.Names.{textOf};
-ghost use Rattle.reader.specs.Answers.{nameRead, instanceRead, messageRead, lineRead, draftRead};
+ghost use Rattle.reader.specs.Answers.{restRead, nameRead, instanceRead, messageRead, lineRead, draftRead};
 ghost use Rattle.reader.specs.Lexemes.{seen, placeOf};
-ghost use Rattle.reader.specs.Reading.{noName, nameAt, instanceAt, furtherAt, newMessageAt, receiverAt, sentMessageAt, senderIs, outLine, inLine, eventLine};
+ghost use Rattle.reader.specs.Reading.{keywordFrom, semicolonFrom, noName, nameAt, instanceAt, furtherAt, newMessageAt, receiverAt, sentMessageAt, senderIs, outLine, inLine, eventLine};
 ghost use Rattle.reader.specs.declared.refusals.Refusal.the-variants.{Unexpected};
 use super::refusals::Refusal;
 use super::tokens::next_token;
@@ -22,7 +22,7 @@ use chart::numbers::InstanceId;
 use chart::words::same_text;
 use chart::numbers::InstanceIdPartialEq;
 
-pub fn unwanted(token: &Token<'_>) -> Refusal
+pub(crate) fn unwanted(token: &Token<'_>) -> Refusal
     ensures { λ r. ⌜ r ≡ Unexpected (placeOf (seen (now (token .entry)))) ⌝ }
 {
     let at = match token {
@@ -36,6 +36,31 @@ pub fn unwanted(token: &Token<'_>) -> Refusal
     Refusal::Unexpected { at }
 }
 
+// What is left past this word.
+pub(crate) fn keyword<'a>(rest: &'a [u8], whole: usize, wanted: &[u8]) -> Result<&'a [u8], Refusal>
+    ensures { λ r. ⌜ restRead r ≡ keywordFrom (now (wanted .entry)) whole (now (rest .entry)) ⌝ }
+{
+    let (token, after) = next_token(rest, whole);
+    let Token::Word(word, at) = token else {
+        return Err(unwanted(&token));
+    };
+    if !same_text(word, wanted) {
+        return Err(Refusal::Unexpected { at });
+    }
+    Ok(after)
+}
+
+// What is left past a semicolon.
+pub(crate) fn semicolon<'a>(rest: &'a [u8], whole: usize) -> Result<&'a [u8], Refusal>
+    ensures { λ r. ⌜ restRead r ≡ semicolonFrom whole (now (rest .entry)) ⌝ }
+{
+    let (token, after) = next_token(rest, whole);
+    let Token::Semicolon(..) = token else {
+        return Err(unwanted(&token));
+    };
+    Ok(after)
+}
+
 fn no_name(why: NameRefusal, at: usize) -> Refusal
     ensures { λ r. ⌜ r ≡ noName why at ⌝ }
 {
@@ -45,7 +70,7 @@ fn no_name(why: NameRefusal, at: usize) -> Refusal
     }
 }
 
-pub fn name_at(word: &[u8], at: usize) -> Result<Name, Refusal>
+pub(crate) fn name_at(word: &[u8], at: usize) -> Result<Name, Refusal>
     ensures { λ r. ⌜ nameRead r ≡ nameAt (now (word .entry)) at ⌝ }
 {
     match Name::new(word) {
@@ -54,7 +79,7 @@ pub fn name_at(word: &[u8], at: usize) -> Result<Name, Refusal>
     }
 }
 
-pub fn instance_at(draft: &Draft, word: &[u8], at: usize) -> Result<InstanceId, Refusal>
+pub(crate) fn instance_at(draft: &Draft, word: &[u8], at: usize) -> Result<InstanceId, Refusal>
     ensures { λ r. ⌜ instanceRead r ≡ instanceAt (drafted (now (draft .entry))) (now (word .entry)) at ⌝ }
 {
     let name = name_at(word, at)?;
@@ -65,7 +90,7 @@ pub fn instance_at(draft: &Draft, word: &[u8], at: usize) -> Result<InstanceId, 
 }
 
 // A further name of the list of instances.
-pub fn further_instance(draft: &mut Draft, word: &[u8], at: usize) -> Result<(), Refusal>
+pub(crate) fn further_instance(draft: &mut Draft, word: &[u8], at: usize) -> Result<(), Refusal>
     ensures { λ r. ⌜ draftRead r (drafted (now (draft .exit))) ≡ furtherAt (drafted (now (draft .entry))) (now (word .entry)) at ⌝ }
 {
     let name = name_at(word, at)?;
@@ -136,22 +161,13 @@ fn out_line<'a>(draft: &mut Draft, sender: InstanceId, rest: &'a [u8], whole: us
         return Err(unwanted(&token));
     };
     let name = new_message(draft, word, at)?;
-    let (token, rest) = next_token(rest, whole);
-    let Token::Word(word, at) = token else {
-        return Err(unwanted(&token));
-    };
-    if !same_text(word, b"to") {
-        return Err(Refusal::Unexpected { at });
-    }
+    let rest = keyword(rest, whole, b"to")?;
     let (token, rest) = next_token(rest, whole);
     let Token::Word(word, at) = token else {
         return Err(unwanted(&token));
     };
     let receiver = receiver(draft, sender, word, at)?;
-    let (token, rest) = next_token(rest, whole);
-    let Token::Semicolon(..) = token else {
-        return Err(unwanted(&token));
-    };
+    let rest = semicolon(rest, whole)?;
     let Ok(_) = draft.send(name, sender, receiver) else {
         unreachable()
     };
@@ -167,22 +183,13 @@ fn in_line<'a>(draft: &mut Draft, receiver: InstanceId, rest: &'a [u8], whole: u
         return Err(unwanted(&token));
     };
     let message = sent_message(draft, receiver, word, at)?;
-    let (token, rest) = next_token(rest, whole);
-    let Token::Word(word, at) = token else {
-        return Err(unwanted(&token));
-    };
-    if !same_text(word, b"from") {
-        return Err(Refusal::Unexpected { at });
-    }
+    let rest = keyword(rest, whole, b"from")?;
     let (token, rest) = next_token(rest, whole);
     let Token::Word(word, at) = token else {
         return Err(unwanted(&token));
     };
     check_sender(draft, message.sender, word, at)?;
-    let (token, rest) = next_token(rest, whole);
-    let Token::Semicolon(..) = token else {
-        return Err(unwanted(&token));
-    };
+    let rest = semicolon(rest, whole)?;
     let Ok(()) = draft.receive(message.number) else {
         unreachable()
     };
@@ -190,7 +197,7 @@ fn in_line<'a>(draft: &mut Draft, receiver: InstanceId, rest: &'a [u8], whole: u
 }
 
 // The rest of an event line, past the name of its instance.
-fn event_line<'a>(draft: &mut Draft, instance: InstanceId, rest: &'a [u8], whole: usize) -> Result<&'a [u8], Refusal>
+pub(crate) fn event_line<'a>(draft: &mut Draft, instance: InstanceId, rest: &'a [u8], whole: usize) -> Result<&'a [u8], Refusal>
     requires { ⌜ instance .0 < length (drafted (now draft) .instances) ⌝ }
     ensures { λ r. ⌜ lineRead r (drafted (now (draft .exit))) ≡ eventLine whole (drafted (now (draft .entry))) (instance .0) (now (rest .entry)) ⌝ }
 {
