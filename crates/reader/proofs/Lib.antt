@@ -1,3 +1,5 @@
 pub mod Walking
 pub mod Inversion
 pub mod Drawing
+pub mod Lexing
+pub mod Taking

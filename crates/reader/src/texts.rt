@@ -23,9 +23,9 @@ fn more_instances<'a>(draft: &mut Draft, rest: &'a [u8], whole: usize) -> Result
     requires { ⌜ length (now rest) ≤ whole ⌝ }
     ensures { λ r. ⌜ lineRead r (drafted (now (draft .exit))) ≡ instancesFrom (suc whole) whole (drafted (now (draft .entry))) (now (rest .entry)) ⌝ }
 {
-    let mut rest = rest;
+    let mut unread = rest;
     loop {
-        let (token, after) = next_token(rest, whole);
+        let (token, after) = next_token(unread, whole);
         if let Token::Semicolon(..) = token {
             return Ok(after);
         }
@@ -37,7 +37,7 @@ fn more_instances<'a>(draft: &mut Draft, rest: &'a [u8], whole: usize) -> Result
             return Err(unwanted(&token));
         };
         further_instance(draft, word, at)?;
-        rest = after;
+        unread = after;
     }
 }
 
@@ -46,9 +46,9 @@ fn event_lines<'a>(draft: &mut Draft, rest: &'a [u8], whole: usize) -> Result<(u
     requires { ⌜ length (now rest) ≤ whole ⌝ }
     ensures { λ r. ⌜ linesRead r (drafted (now (draft .exit))) ≡ linesFrom (suc whole) whole (drafted (now (draft .entry))) (now (rest .entry)) ⌝ }
 {
-    let mut rest = rest;
+    let mut unread = rest;
     loop {
-        let (token, after) = next_token(rest, whole);
+        let (token, after) = next_token(unread, whole);
         let Token::Word(word, at) = token else {
             return Err(unwanted(&token));
         };
@@ -56,7 +56,7 @@ fn event_lines<'a>(draft: &mut Draft, rest: &'a [u8], whole: usize) -> Result<(u
             return Ok((at, after));
         }
         let instance = instance_at(draft, word, at)?;
-        rest = event_line(draft, instance, after, whole)?;
+        unread = event_line(draft, instance, after, whole)?;
     }
 }
 
