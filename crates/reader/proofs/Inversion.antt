@@ -21,7 +21,7 @@ use Rattle.chart.proofs.Seeking.{seek-inside}
 use Rattle.reader.specs.Reading.{Outcome, then, nameAt, knownBy, instanceAt, newMessageAt, receiverAt, sentBy, sentMessageAt, senderIs}
 use Rattle.reader.specs.declared.refusals.Refusal.{Refusal}
 
-refused : {X : Type 0} (e : Refusal) (x : X) (P : Type 0) → _≡_ {A = Outcome X} (Err e) (Ok x) → P
+pub refused : {X : Type 0} (e : Refusal) (x : X) (P : Type 0) → _≡_ {A = Outcome X} (Err e) (Ok x) → P
 refused e x P h = let z : _≡_ {A = ℕ} 0 1 = cc in absurd (omega arith)
 
 pub then-ok : {X Y : Type 0} (r : Outcome X) (f : X → Outcome Y) (y : Y) → then r f ≡ Ok y → (x : X) × (r ≡ Ok x) × (f x ≡ Ok y)
@@ -37,7 +37,7 @@ pub passes : {Y : Type 0} (b : Bool) (e : Refusal) (r : Outcome Y) (y : Y) → c
 passes true e r y h = (refl, h)
 passes false e r y h = refused e y _ h
 
-same-ok : {X : Type 0} (x y : X) → _≡_ {A = Outcome X} (Ok x) (Ok y) → x ≡ y
+pub same-ok : {X : Type 0} (x y : X) → _≡_ {A = Outcome X} (Ok x) (Ok y) → x ≡ y
 same-ok x y h = cc
 
 pub known-ok : (p : ℕ) (o : Option ℕ) (i : ℕ) → knownBy p o ≡ Ok i → o ≡ Some i

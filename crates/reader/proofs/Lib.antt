@@ -3,3 +3,4 @@ pub mod Inversion
 pub mod Drawing
 pub mod Lexing
 pub mod Taking
+pub mod Accepting

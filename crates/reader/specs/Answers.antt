@@ -10,7 +10,9 @@ use Rattle.chart.specs.Content.{Content}
 use Rattle.chart.specs.declared.names.Name.{Name}
 use Rattle.chart.specs.declared.numbers.InstanceId.{InstanceId}
 use Rattle.chart.specs.declared.drafting.consulting.Sent.{Sent}
-use Rattle.reader.specs.Reading.{Outcome}
+use Rattle.reader.specs.Reading.{Outcome, Step, more, ended}
+use Rattle.reader.specs.declared.steps.Step.{Step as Step′}
+use Rattle.reader.specs.declared.steps.Step.the-variants.{More, Ended}
 use Rattle.reader.specs.declared.refusals.Refusal.{Refusal}
 
 abbrev pub nameRead : Outcome Name → Outcome Text
@@ -39,7 +41,15 @@ abbrev pub restRead : Outcome (RefT Text) → Outcome Text
 restRead (Ok rest) = Ok (rest .now)
 restRead (Err e) = Err e
 
--- a draft, the place of `endmsc`, and what is left of the text
-abbrev pub linesRead : Outcome (ℕ × RefT Text) → Content → Outcome (Content × ℕ × Text)
-linesRead (Ok p) c = Ok (c, p .0, p .1 .now)
-linesRead (Err e) c = Err e
+abbrev pub stepBy : Step′ → Content → Step
+stepBy (More rest) c = more c (rest .now)
+stepBy (Ended p rest) c = ended c p (rest .now)
+
+abbrev pub stepRead : Outcome Step′ → Content → Outcome Step
+stepRead (Ok s) c = Ok (stepBy s c)
+stepRead (Err e) c = Err e
+
+-- a draft, the place where the part ended, and what is left of the text
+abbrev pub partRead : Outcome (ℕ × RefT Text) → Content → Outcome (Content × ℕ × Text)
+partRead (Ok p) c = Ok (c, p .0, p .1 .now)
+partRead (Err e) c = Err e

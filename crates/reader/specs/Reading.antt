@@ -20,7 +20,9 @@ use Rattle.chart.specs.declared.names.NameRefusal.{NameRefusal}
 use Rattle.chart.specs.declared.names.NameRefusal.the-variants.{NotAName, TooLong}
 use Rattle.chart.specs.declared.drafting.InstanceRefusal.{InstanceRefusal}
 use Rattle.chart.specs.declared.drafting.InstanceRefusal.the-variants as instance
-use Rattle.reader.specs.Lexemes.{Lexeme, word, semicolon, comma, colon, finish, stray, lexeme, left}
+use Rattle.reader.specs.Lexemes.{Lexeme, word, semicolon, comma, colon, finish, stray, placeOf, lexeme, left}
+use Rattle.reader.specs.declared.steps.Part.{Part}
+use Rattle.reader.specs.declared.steps.Part.the-variants.{Instances, Lines}
 use Rattle.reader.specs.declared.refusals.Refusal.{Refusal}
 use Rattle.reader.specs.declared.refusals.Refusal.the-variants.{TextTooLong, Unexpected, NameTooLong, TooManyInstances, NamedTwice, UnknownInstance, SentToItself, TooManyMessages, NotAsSent, NotReceived}
 
@@ -155,21 +157,38 @@ eventLine n c i bs =
     cond (sameBytes t (codes "out")) (outLine n c i (left (left bs)))
     (cond (sameBytes t (codes "in")) (inLine n c i (left (left bs))) (Err (Unexpected p)))))
 
--- event lines up to `endmsc`, with its place; each line takes a byte, so f only has to be large enough
-abbrev pub linesFrom : ℕ → ℕ → Content → Text → Outcome (Content × ℕ × Text)
-linesFrom zero n c bs = Err TextTooLong
-linesFrom (suc f) n c bs =
-    onWord (lexeme n bs) (λ t p.
-    cond (sameBytes t (codes "endmsc")) (Ok (c, p, left bs))
-    (then (instanceAt c t p) (λ i. then (eventLine n c i (left bs)) (λ r. linesFrom f n (r .0) (r .1)))))
+-- a part of the text that repeats goes on, or has ended: at a place, with this left
+pub data Step : Type 0 where
+  more : Content → Text → Step
+  ended : Content → ℕ → Text → Step
 
--- the rest of the list of instances, past its first name
-abbrev pub instancesFrom : ℕ → ℕ → Content → Text → Outcome (Content × Text)
-instancesFrom zero n c bs = Err TextTooLong
-instancesFrom (suc f) n c bs =
+-- a comma and a further name, or the semicolon that ends the list of instances
+abbrev pub instanceStep : ℕ → Content → Text → Outcome Step
+instanceStep n c bs =
     onCommaOrSemicolon (lexeme n bs)
-    (onWord (lexeme n (left bs)) (λ t p. then (furtherAt c t p) (λ d. instancesFrom f n d (left (left bs)))))
-    (Ok (c, left bs))
+    (onWord (lexeme n (left bs)) (λ t p. then (furtherAt c t p) (λ d. Ok (more d (left (left bs))))))
+    (Ok (ended c (placeOf (lexeme n bs)) (left bs)))
+
+-- an event line, or `endmsc`
+abbrev pub lineStep : ℕ → Content → Text → Outcome Step
+lineStep n c bs =
+    onWord (lexeme n bs) (λ t p.
+    cond (sameBytes t (codes "endmsc")) (Ok (ended c p (left bs)))
+    (then (instanceAt c t p) (λ i. then (eventLine n c i (left bs)) (λ r. Ok (more (r .0) (r .1))))))
+
+-- which part it is
+abbrev pub stepOf : Part → ℕ → Content → Text → Outcome Step
+stepOf Instances n c bs = instanceStep n c bs
+stepOf Lines n c bs = lineStep n c bs
+
+abbrev pub goOn : (Content → Text → Outcome (Content × ℕ × Text)) → Step → Outcome (Content × ℕ × Text)
+goOn go (more c bs) = go c bs
+goOn go (ended c p bs) = Ok (c, p, bs)
+
+-- step by step to the end of the part; each step takes a byte, so f only has to be large enough
+abbrev pub stepsFrom : Part → ℕ → ℕ → Content → Text → Outcome (Content × ℕ × Text)
+stepsFrom part zero n c bs = Err TextTooLong
+stepsFrom part (suc f) n c bs = then (stepOf part n c bs) (goOn (stepsFrom part f n))
 
 -- past `endmsc`: a semicolon, and then blanks only
 abbrev pub ending : ℕ → Text → Outcome (Unit {0})
@@ -183,8 +202,8 @@ chartFrom n bs =
     then (semicolonFrom n (left bs₁)) (λ bs₂.
     then (keywordFrom (codes "inst") n bs₂) (λ bs₃.
     onWord (lexeme n bs₃) (λ t₃ p₃. then (nameAt t₃ p₃) (λ first.
-    then (instancesFrom (suc n) n (begun title first) (left bs₃)) (λ i.
-    then (linesFrom (suc n) n (i .0) (i .1)) (λ l.
+    then (stepsFrom Instances (suc n) n (begun title first) (left bs₃)) (λ i.
+    then (stepsFrom Lines (suc n) n (i .0) (i .2)) (λ l.
     cond (allReceived (l .0)) (then (ending n (l .2)) (λ _. Ok (l .0))) (Err (NotReceived (l .1)))))))))))) 
 
 -- the chart that a text gives, or why it comes back

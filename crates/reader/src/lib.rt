@@ -2,4 +2,4 @@
 pub mod tokens;
 pub mod refusals;
 pub mod lines;
-pub mod texts;
+pub mod steps;
