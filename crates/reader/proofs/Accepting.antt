@@ -36,7 +36,7 @@ use Rattle.reader.proofs.Lexing.{Shows}
 use Rattle.reader.proofs.Taking.{Takes, takes-then, all-shorter}
 
 module _ {Y : Type 0} (y : Y) where
-  word-ok : (l : Lexeme) (f : Text → ℕ → Outcome Y) → onWord l f ≡ Ok y → (t : Text) × (p : ℕ) × Shows (written t) l × (f t p ≡ Ok y)
+  pub word-ok : (l : Lexeme) (f : Text → ℕ → Outcome Y) → onWord l f ≡ Ok y → (t : Text) × (p : ℕ) × Shows (written t) l × (f t p ≡ Ok y)
   word-ok (word t p) f h = (t, p, refl, h)
   word-ok (semicolon t p) f h = refused _ y _ h
   word-ok (comma t p) f h = refused _ y _ h
@@ -68,7 +68,7 @@ module _ {Y : Type 0} (y : Y) where
   end-ok (finish p) r h = (p, refl, h)
   end-ok (stray p) r h = refused _ y _ h
 
-  list-ok : (l : Lexeme) (r q : Outcome Y) → onCommaOrSemicolon l r q ≡ Ok y → (Shows commaSign l × (r ≡ Ok y)) ⊎ (Shows semicolonSign l × (q ≡ Ok y))
+  pub list-ok : (l : Lexeme) (r q : Outcome Y) → onCommaOrSemicolon l r q ≡ Ok y → (Shows commaSign l × (r ≡ Ok y)) ⊎ (Shows semicolonSign l × (q ≡ Ok y))
   list-ok (word t p) r q h = refused _ y _ h
   list-ok (semicolon t p) r q h = inr (refl, h)
   list-ok (comma t p) r q h = inl (refl, h)
@@ -76,7 +76,7 @@ module _ {Y : Type 0} (y : Y) where
   list-ok (finish p) r q h = refused _ y _ h
   list-ok (stray p) r q h = refused _ y _ h
 
-same-text : (t w : Text) → sameBytes t w ≡ true → t ≡ w
+pub same-text : (t w : Text) → sameBytes t w ≡ true → t ≡ w
 same-text t w e = sameBytes-decides t w .0 e
 
 pub keyword-ok : (w : Text) (n : ℕ) (bs r : Text) → keywordFrom w n bs ≡ Ok r → Takes n bs (written w ∷ []) r
@@ -111,7 +111,7 @@ pub data Adds (c : Content) (i : ℕ) : List Sign → Content → Type 0 where
     → Adds c i (colonSign ∷ written (codes "in") ∷ written u ∷ written (codes "from") ∷ written v ∷ semicolonSign ∷ []) (withReceipt c m)
 
 -- a name that was found among the instances
-found-ok : (c : Content) (t : Text) (p i : ℕ) → instanceAt c t p ≡ Ok i → (isName t ≡ true) × (seek (λ x. x) t (c .instances) ≡ Some i)
+pub found-ok : (c : Content) (t : Text) (p i : ℕ) → instanceAt c t p ≡ Ok i → (isName t ≡ true) × (seek (λ x. x) t (c .instances) ≡ Some i)
 found-ok c t p i h =
     let a = instance-ok c t p i h in
     let b = name-ok t p (a .0) (a .1) in

@@ -4,3 +4,4 @@ pub mod Drawing
 pub mod Lexing
 pub mod Taking
 pub mod Accepting
+pub mod Moving
