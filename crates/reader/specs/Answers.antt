@@ -1,5 +1,5 @@
 -- What the code answers, without its references.
-use mathlib.Core.List.{List}
+use mathlib.Core.Path.{_≡_}
 use Prim.Native.Nat.{ℕ}
 use denote.Ref.{RefT}
 use Rattle.std.specs.declared.result.Result.{Result}
@@ -7,6 +7,8 @@ use Rattle.std.specs.declared.result.Result.the-variants.{Ok, Err}
 use Rattle.chart.specs.Words.{Text}
 use Rattle.chart.specs.Names.{textOf}
 use Rattle.chart.specs.Content.{Content}
+use Rattle.chart.specs.Charted.{content}
+use Rattle.chart.specs.declared.charting.Chart.{Chart}
 use Rattle.chart.specs.declared.names.Name.{Name}
 use Rattle.chart.specs.declared.numbers.InstanceId.{InstanceId}
 use Rattle.chart.specs.declared.drafting.consulting.Sent.{Sent}
@@ -14,6 +16,8 @@ use Rattle.reader.specs.Reading.{Outcome, Step, more, ended}
 use Rattle.reader.specs.declared.steps.Step.{Step as Step′}
 use Rattle.reader.specs.declared.steps.Step.the-variants.{More, Ended}
 use Rattle.reader.specs.declared.refusals.Refusal.{Refusal}
+use Rattle.reader.specs.declared.reading.ReadError.{ReadError}
+use Rattle.reader.specs.declared.reading.ReadError.the-variants.{Refused, OutOfMemory}
 
 abbrev pub nameRead : Outcome Name → Outcome Text
 nameRead (Ok n) = Ok (textOf n)
@@ -53,3 +57,15 @@ stepRead (Err e) c = Err e
 abbrev pub partRead : Outcome (ℕ × RefT Text) → Content → Outcome (Content × ℕ × Text)
 partRead (Ok p) c = Ok (c, p .0, p .1 .now)
 partRead (Err e) c = Err e
+
+-- a chart as the reading gives it; nothing is said of a want of memory
+abbrev pub ChartRead : Result Chart ReadError → Outcome Content → Type 0
+ChartRead (Ok chart) s = s ≡ Ok (content chart)
+ChartRead (Err (Refused e)) s = s ≡ Err e
+ChartRead (Err OutOfMemory) s = Unit {0}
+
+-- the same of a place that was filled with c
+abbrev pub PlaceRead : Result (Unit {0}) ReadError → Content → Outcome Content → Type 0
+PlaceRead (Ok u) c s = s ≡ Ok c
+PlaceRead (Err (Refused e)) c s = s ≡ Err e
+PlaceRead (Err OutOfMemory) c s = Unit {0}

@@ -3,3 +3,4 @@ pub mod tokens;
 pub mod refusals;
 pub mod lines;
 pub mod steps;
+pub mod reading;

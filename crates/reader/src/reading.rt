@@ -1,0 +1,100 @@
+// Reading a whole chart text into a chart place.
+ghost use mathlib.Core.Path.{_≡_};
+ghost use Rattle.std.specs.Vec.{refused};
+ghost use Rattle.chart.specs.Charted.{content};
+ghost use Rattle.reader.specs.Answers.{ChartRead, PlaceRead};
+ghost use Rattle.reader.specs.Reading.{reading, ending};
+ghost use Rattle.reader.specs.declared.reading.ReadError.the-variants.{Refused, OutOfMemory};
+use super::lines::keyword;
+use super::lines::name_at;
+use super::lines::semicolon;
+use super::lines::unwanted;
+use super::refusals::Refusal;
+use super::steps::whole_part;
+use super::steps::Part;
+use super::tokens::next_token;
+use super::tokens::Token;
+use chart::charting::Chart;
+use chart::drafting::Draft;
+use std::alloc::AllocError;
+use std::alloc::Global;
+use crate::refusals::RefusalDebug;
+use crate::refusals::RefusalPartialEq;
+
+// The longest text that is read, in bytes.
+pub const TEXT_LIMIT: usize = 16_384;
+
+// Why a chart place was not filled.
+#[derive(Clone, Copy, PartialEq, Eq, Debug)]
+pub enum ReadError {
+    Refused(Refusal),
+    OutOfMemory,
+}
+
+pub impl From<Refusal> for ReadError as ReadErrorFromRefusal {
+    ghost converts = { λ e r. r ≡ Refused e };
+
+    fn from(refusal: Refusal) -> ReadError {
+        ReadError::Refused(refusal)
+    }
+}
+
+pub impl From<AllocError> for ReadError as ReadErrorFromAlloc {
+    ghost converts = { λ _ r. r ≡ OutOfMemory };
+
+    fn from(_error: AllocError) -> ReadError {
+        ReadError::OutOfMemory
+    }
+}
+
+// Past `endmsc`: a semicolon, and then blanks only.
+fn closing(rest: &[u8], whole: usize) -> Result<(), Refusal>
+    ensures { λ r. ⌜ r ≡ ending whole (now (rest .entry)) ⌝ }
+{
+    let rest = semicolon(rest, whole)?;
+    let (token, _) = next_token(rest, whole);
+    let Token::End(_) = token else {
+        return Err(unwanted(&token));
+    };
+    Ok(())
+}
+
+fn read_chart(heap: Global, text: &[u8]) -> Result<Chart, ReadError>
+    ensures { λ r. ⌜ ChartRead r (reading (now (text .entry))) ⌝ }
+{
+    let whole = text.len();
+    if whole > TEXT_LIMIT {
+        return Err(ReadError::Refused(Refusal::TextTooLong));
+    }
+    let rest = keyword(text, whole, b"msc")?;
+    let (token, rest) = next_token(rest, whole);
+    let Token::Word(word, at) = token else {
+        return Err(ReadError::Refused(unwanted(&token)));
+    };
+    let title = name_at(word, at)?;
+    let rest = semicolon(rest, whole)?;
+    let rest = keyword(rest, whole, b"inst")?;
+    let (token, rest) = next_token(rest, whole);
+    let Token::Word(word, at) = token else {
+        return Err(ReadError::Refused(unwanted(&token)));
+    };
+    let first = name_at(word, at)?;
+    let mut draft = Draft::new(heap, title, first)?;
+    let (_, rest) = whole_part(Part::Instances, &mut draft, rest, whole)?;
+    let (at, rest) = whole_part(Part::Lines, &mut draft, rest, whole)?;
+    let Some(chart) = draft.finish() else {
+        return Err(ReadError::Refused(Refusal::NotReceived { at }));
+    };
+    closing(rest, whole)?;
+    Ok(chart)
+}
+
+// Fills the place with the chart of the text, or says why not and leaves it as it was.
+pub fn read(place: &mut Chart, text: &[u8]) -> Result<(), ReadError>
+    ensures answer { λ r. ⌜ PlaceRead r (content (now (place .exit))) (reading (now (text .entry))) ⌝ }
+    ensures unchanged { λ r. ⌜ refused r (λ _. now (place .exit) ≡ now (place .entry)) ⌝ }
+{
+    let chart = read_chart(place.allocator(), text)?;
+    *place = chart;
+    Ok(())
+}
