@@ -5,3 +5,4 @@ pub mod Lexing
 pub mod Taking
 pub mod Accepting
 pub mod Moving
+pub mod Goings

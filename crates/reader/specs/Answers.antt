@@ -58,6 +58,10 @@ abbrev pub partRead : Outcome (ℕ × RefT Text) → Content → Outcome (Conten
 partRead (Ok p) c = Ok (c, p .0, p .1 .now)
 partRead (Err e) c = Err e
 
+abbrev pub contentRead : Outcome Chart → Outcome Content
+contentRead (Ok chart) = Ok (content chart)
+contentRead (Err e) = Err e
+
 -- a chart as the reading gives it; nothing is said of a want of memory
 abbrev pub ChartRead : Result Chart ReadError → Outcome Content → Type 0
 ChartRead (Ok chart) s = s ≡ Ok (content chart)

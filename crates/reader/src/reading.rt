@@ -1,9 +1,11 @@
 // Reading a whole chart text into a chart place.
 ghost use mathlib.Core.Path.{_≡_};
 ghost use Rattle.std.specs.Vec.{refused};
+ghost use Rattle.chart.specs.Drafted.{drafted};
+ghost use Rattle.chart.specs.Names.{textOf};
 ghost use Rattle.chart.specs.Charted.{content};
-ghost use Rattle.reader.specs.Answers.{ChartRead, PlaceRead};
-ghost use Rattle.reader.specs.Reading.{reading, ending};
+ghost use Rattle.reader.specs.Answers.{contentRead, ChartRead, PlaceRead};
+ghost use Rattle.reader.specs.Reading.{reading, listFrom, bodyFrom, ending};
 ghost use Rattle.reader.specs.declared.reading.ReadError.the-variants.{Refused, OutOfMemory};
 use super::lines::keyword;
 use super::lines::name_at;
@@ -16,6 +18,7 @@ use super::tokens::next_token;
 use super::tokens::Token;
 use chart::charting::Chart;
 use chart::drafting::Draft;
+use chart::names::Name;
 use std::alloc::AllocError;
 use std::alloc::Global;
 use crate::refusals::RefusalDebug;
@@ -59,6 +62,35 @@ fn closing(rest: &[u8], whole: usize) -> Result<(), Refusal>
     Ok(())
 }
 
+// Past the first name of the list: the other instances, the lines, and the end.
+fn read_body(draft: Draft, rest: &[u8], whole: usize) -> Result<Chart, Refusal>
+    ensures { λ r. ⌜ contentRead r ≡ bodyFrom whole (drafted draft) (now (rest .entry)) ⌝ }
+{
+    let mut draft = draft;
+    let (_, rest) = whole_part(Part::Instances, &mut draft, rest, whole)?;
+    let (at, rest) = whole_part(Part::Lines, &mut draft, rest, whole)?;
+    let Some(chart) = draft.finish() else {
+        return Err(Refusal::NotReceived { at });
+    };
+    closing(rest, whole)?;
+    Ok(chart)
+}
+
+// Past the title line.
+fn read_list(heap: Global, title: Name, rest: &[u8], whole: usize) -> Result<Chart, ReadError>
+    ensures { λ r. ⌜ ChartRead r (listFrom whole (textOf title) (now (rest .entry))) ⌝ }
+{
+    let rest = keyword(rest, whole, b"inst")?;
+    let (token, rest) = next_token(rest, whole);
+    let Token::Word(word, at) = token else {
+        return Err(ReadError::Refused(unwanted(&token)));
+    };
+    let first = name_at(word, at)?;
+    let draft = Draft::new(heap, title, first)?;
+    let chart = read_body(draft, rest, whole)?;
+    Ok(chart)
+}
+
 fn read_chart(heap: Global, text: &[u8]) -> Result<Chart, ReadError>
     ensures { λ r. ⌜ ChartRead r (reading (now (text .entry))) ⌝ }
 {
@@ -73,20 +105,7 @@ fn read_chart(heap: Global, text: &[u8]) -> Result<Chart, ReadError>
     };
     let title = name_at(word, at)?;
     let rest = semicolon(rest, whole)?;
-    let rest = keyword(rest, whole, b"inst")?;
-    let (token, rest) = next_token(rest, whole);
-    let Token::Word(word, at) = token else {
-        return Err(ReadError::Refused(unwanted(&token)));
-    };
-    let first = name_at(word, at)?;
-    let mut draft = Draft::new(heap, title, first)?;
-    let (_, rest) = whole_part(Part::Instances, &mut draft, rest, whole)?;
-    let (at, rest) = whole_part(Part::Lines, &mut draft, rest, whole)?;
-    let Some(chart) = draft.finish() else {
-        return Err(ReadError::Refused(Refusal::NotReceived { at }));
-    };
-    closing(rest, whole)?;
-    Ok(chart)
+    read_list(heap, title, rest, whole)
 }
 
 // Fills the place with the chart of the text, or says why not and leaves it as it was.
