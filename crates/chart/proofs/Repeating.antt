@@ -10,7 +10,7 @@ use Rattle.std.specs.Options.{isSome}
 use Rattle.std.specs.declared.option.Option.{Option}
 use Rattle.std.specs.declared.option.Option.the-variants.{Some, None}
 use Rattle.std.specs.shelf.Text.{sameBytes}
-use Rattle.std.proofs.shelf.Lists.{length-push, length-map, getD-append-left, getD-push, getD-map, getD-take, map-push, length-take-le}
+use Rattle.std.proofs.shelf.Lists.{length-push, length-map, getD-append-left, getD-push, getD-map, getD-take, map-push, length-take-le, getD-default}
 use Rattle.std.proofs.shelf.Tests.{cases-bool, both-ways}
 use Rattle.chart.specs.Words.{Text}
 use Rattle.chart.specs.Content.{NamesApart}
@@ -19,17 +19,27 @@ use Rattle.chart.specs.Names.{textOf}
 use Rattle.chart.specs.Repeats.{FirstRepeat, Apart, RepeatAt}
 use Rattle.chart.specs.declared.names.Name.{Name}
 use Rattle.chart.proofs.Additions.{apart-push}
-use Rattle.chart.proofs.Seeking.{seek-none, seek-absent}
+use Rattle.chart.proofs.Seeking.{seek-none, seek-at, seek-absent, is-same}
 
 abbrev pub sameName : Name → Name → Bool
 sameName a b = sameBytes (textOf a) (textOf b)
 
-absent : (t : Text) (ts : List Text) → among t ts ≡ false → seek (λ x. x) t ts ≡ None
+pub absent : (t : Text) (ts : List Text) → among t ts ≡ false → seek (λ x. x) t ts ≡ None
 absent t ts e = none-of (seek (λ x. x) t ts) e
   where
     none-of : (o : Option ℕ) → isSome o ≡ false → o ≡ None
     none-of None e = refl
     none-of (Some i) e = let z : _≡_ {A = Bool} true false = e in cc
+
+-- among names that are apart, each is found at its place
+pub seek-apart : (ts : List Text) (i : ℕ) → NamesApart ts → i < length ts → seek (λ x. x) (getD ts i []) ts ≡ Some i
+seek-apart ts i apart l =
+    seek-at (λ x. x) (getD ts i []) ts i l
+    (λ k k-low d.
+      let before = seek-absent (λ x. x) (getD ts i []) (take i ts) (absent (getD ts i []) (take i ts) (apart i l)) k (omega (arith, length-take-le i ts (omega arith))) d in
+      let a = getD-take i ts k d k-low in
+      cc)
+    (λ d. let a = getD-default ts i d [] l in let b = is-same (getD ts i []) in cc)
 
 module _ (xs : List Name) (n : Name) where
   names-of : map textOf (xs ++ n ∷ []) ≡ map textOf xs ++ textOf n ∷ []

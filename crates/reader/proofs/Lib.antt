@@ -6,3 +6,4 @@ pub mod Taking
 pub mod Accepting
 pub mod Moving
 pub mod Goings
+pub mod Staging
