@@ -7,3 +7,4 @@ pub mod Accepting
 pub mod Moving
 pub mod Goings
 pub mod Staging
+pub mod Sounding
