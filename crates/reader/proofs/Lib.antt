@@ -8,3 +8,4 @@ pub mod Moving
 pub mod Goings
 pub mod Staging
 pub mod Sounding
+pub mod Doing
