@@ -30,7 +30,7 @@ use Rattle.reader.specs.declared.steps.Part.the-variants.{Instances, Lines}
 use Rattle.reader.proofs.Lexing.{Shows}
 use Rattle.reader.proofs.Taking.{Takes, takes-then, all-shorter}
 use Rattle.reader.proofs.Accepting.{Adds, sends, receives}
-use Rattle.reader.proofs.Moving.{Moves, lists, draws, Many, done, again, lastSign}
+use Rattle.reader.proofs.Moving.{Moves, lists, draws, Many, done, again, lastSign, some-tokens}
 
 pub then-does : {X Y : Type 0} {r : Outcome X} {x : X} (f : X → Outcome Y) → r ≡ Ok x → then r f ≡ f x
 then-does f e = ap (λ s. then s f) e
@@ -142,3 +142,38 @@ module _ (n : ℕ) (c : Content) where
       colon-does (lexeme n bs) _ (h .0)
       ∙ word-does (lexeme n (left bs)) (codes "in") (λ t p. cond (sameBytes t (codes "out")) (outLine n c i (left (left bs))) (cond (sameBytes t (codes "in")) (inLine n c i (left (left bs))) (Err (Unexpected p)))) (h .1 .0) .1
       ∙ in-does i (left (left bs)) q u v m name other found new at from′ (h .1 .1)
+
+listed-does : (c : Content) (t : Text) (p : ℕ) → isName t ≡ true → length (c .instances) < 16 → among t (c .instances) ≡ false → furtherAt c t p ≡ Ok (withInstance c t)
+listed-does c t p name few new =
+    then-does (λ u. listedBy p (listed c u)) (name-does t p name)
+    ∙ ap (listedBy p) (cond-false (leb 16 (length (c .instances))) (Err instance.TooMany) _ (lt-leb 16 (length (c .instances)) few) ∙ cond-false (among t (c .instances)) (Err instance.NamedTwice) (Ok (withInstance c t)) new)
+
+step-does : (n : ℕ) {c d : Content} {part : Part} {ts : List Sign} (bs q : Text) → Moves c part ts d → Takes n bs ts q → stepOf part n c bs ≡ Ok (more d q)
+step-does n {c} bs q (lists {t} name few new) h =
+    let w = word-does (lexeme n (left bs)) t (λ t p. then (furtherAt c t p) (λ d. Ok (more d (left (left bs))))) (h .1 .0) in
+    comma-does (lexeme n bs) _ _ (h .0) ∙ w .1 ∙ then-does _ (listed-does c t (w .0) name few new) ∙ ap (λ l. Ok (more (withInstance c t) l)) (h .1 .1)
+step-does n {c} {d} bs q (draws {t} {i} {ts} name found adds) h =
+    let w = word-does (lexeme n bs) t (λ t p. cond (sameBytes t (codes "endmsc")) (Ok (ended c p (left bs))) (then (instanceAt c t p) (λ i. then (eventLine n c i (left bs)) (λ r. Ok (more (r .0) (r .1)))))) (h .0) in
+    w .1 ∙ cond-false (sameBytes t (codes "endmsc")) (Ok (ended c (w .0) (left bs))) _ (not-end t name)
+    ∙ then-does _ (instance-does c t (w .0) i name found) ∙ then-does _ (event-does n c (left bs) q adds (h .1))
+
+end-does : (part : Part) (n : ℕ) (c : Content) (bs q : Text) → Takes n bs (lastSign part ∷ []) q → (p : ℕ) × (stepOf part n c bs ≡ Ok (ended c p q))
+end-does Instances n c bs q h = (placeOf (lexeme n bs), list-ends (lexeme n bs) _ _ (h .0) ∙ ap (λ l. Ok (ended c (placeOf (lexeme n bs)) l)) (h .1))
+end-does Lines n c bs q h =
+    let w = word-does (lexeme n bs) (codes "endmsc") (λ t p. cond (sameBytes t (codes "endmsc")) (Ok (ended c p (left bs))) (then (instanceAt c t p) (λ i. then (eventLine n c i (left bs)) (λ r. Ok (more (r .0) (r .1)))))) (h .0) in
+    (w .0, w .1 ∙ ap (λ l. Ok (ended c (w .0) l)) (h .1))
+
+-- what is taken first, and what then
+split-takes : (n : ℕ) (bs : Text) (ts us : List Sign) (r : Text) → Takes n bs (ts ++ us) r → (q : Text) × Takes n bs ts q × Takes n q us r
+split-takes n bs [] us r h = (bs, refl, h)
+split-takes n bs (s ∷ ts) us r h = let a = split-takes n (left bs) ts us r (h .1) in (a .0, (h .0, a .1), a .2)
+
+pub steps-do : {part : Part} (f n : ℕ) {c d : Content} {ts : List Sign} (bs r : Text) → Many part c ts d → Takes n bs (ts ++ lastSign part ∷ []) r → length bs < f → (p : ℕ) × (stepsFrom part f n c bs ≡ Ok (d, p, r))
+steps-do zero n bs r m h l = absurd (omega arith)
+steps-do {part} (suc f) n {c} bs r done h l =
+    let e = end-does part n c bs r h in
+    (e .0, then-does (goOn (stepsFrom part f n)) (e .1))
+steps-do {part} (suc f) n {c} bs r (again {d = c′} {ts = ts} {us = us} m rest) h l =
+    let a = split-takes n bs ts (us ++ lastSign part ∷ []) r (subst (λ (x : List Sign). Takes n bs x r) (append-assoc ts us (lastSign part ∷ [])) h) in
+    let k = steps-do f n (a .0) r rest (a .2) (omega (arith, all-shorter n bs ts (a .0) (a .1), some-tokens m)) in
+    (k .0, then-does (goOn (stepsFrom part f n)) (step-does n bs (a .0) m (a .1)) ∙ k .1)

@@ -9,3 +9,4 @@ pub mod Goings
 pub mod Staging
 pub mod Sounding
 pub mod Doing
+pub mod Building

@@ -91,7 +91,7 @@ pub step-took : (part : Part) (n : ℕ) (c : Content) (bs : Text) (s : Step) →
 step-took Instances n c bs s h = instance-took n c bs s h
 step-took Lines n c bs s h = line-took n c bs s h
 
-some-tokens : {c d : Content} {part : Part} {ts : List Sign} → Moves c part ts d → 0 < length ts
+pub some-tokens : {c d : Content} {part : Part} {ts : List Sign} → Moves c part ts d → 0 < length ts
 some-tokens (lists a b e) = omega arith
 some-tokens (draws a b e) = omega arith
 
