@@ -10,3 +10,4 @@ pub mod Staging
 pub mod Sounding
 pub mod Doing
 pub mod Building
+pub mod Completing
