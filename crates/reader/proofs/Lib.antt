@@ -11,3 +11,4 @@ pub mod Sounding
 pub mod Doing
 pub mod Building
 pub mod Completing
+pub mod Meanings

@@ -4,7 +4,7 @@ ghost use Rattle.std.specs.Vec.{refused};
 ghost use Rattle.chart.specs.Drafted.{drafted};
 ghost use Rattle.chart.specs.Names.{textOf};
 ghost use Rattle.chart.specs.Charted.{content};
-ghost use Rattle.reader.specs.Answers.{contentRead, ChartRead, PlaceRead};
+ghost use Rattle.reader.specs.Answers.{contentRead, ChartRead, PlaceRead, PlaceMeans, ReadsTexts};
 ghost use Rattle.reader.specs.Reading.{reading, listFrom, bodyFrom, ending};
 ghost use Rattle.reader.specs.declared.reading.ReadError.the-variants.{Refused, OutOfMemory};
 use super::lines::keyword;
@@ -112,8 +112,14 @@ fn read_chart(heap: Global, text: &[u8]) -> Result<Chart, ReadError>
 pub fn read(place: &mut Chart, text: &[u8]) -> Result<(), ReadError>
     ensures answer { λ r. ⌜ PlaceRead r (content (now (place .exit))) (reading (now (text .entry))) ⌝ }
     ensures unchanged { λ r. ⌜ refused r (λ _. now (place .exit) ≡ now (place .entry)) ⌝ }
+    ensures meaning { λ r. ⌜ PlaceMeans r (content (now (place .exit))) (now (text .entry)) ⌝ }
+    ensures exact { λ _. ⌜ ReadsTexts (now (text .entry)) ⌝ }
 {
-    let chart = read_chart(place.allocator(), text)?;
-    *place = chart;
-    Ok(())
+    match read_chart(place.allocator(), text) {
+        Ok(chart) => {
+            *place = chart;
+            Ok(())
+        }
+        Err(error) => Err(error),
+    }
 }
