@@ -36,9 +36,9 @@ pub seek-apart : (ts : List Text) (i : ℕ) → NamesApart ts → i < length ts 
 seek-apart ts i apart l =
     seek-at (λ x. x) (getD ts i []) ts i l
     (λ k k-low d.
-      let before = seek-absent (λ x. x) (getD ts i []) (take i ts) (absent (getD ts i []) (take i ts) (apart i l)) k (omega (arith, length-take-le i ts (omega arith))) d in
-      let a = getD-take i ts k d k-low in
-      cc)
+    let before = seek-absent (λ x. x) (getD ts i []) (take i ts) (absent (getD ts i []) (take i ts) (apart i l)) k (omega (arith, length-take-le i ts (omega arith))) d in
+    let a = getD-take i ts k d k-low in
+    cc)
     (λ d. let a = getD-default ts i d [] l in let b = is-same (getD ts i []) in cc)
 
 module _ (xs : List Name) (n : Name) where
@@ -59,14 +59,14 @@ module _ (xs : List Name) (n : Name) where
   pub repeat-means : (o : Option ℕ) → NamesApart (map textOf xs) → FirstRepeat sameName (xs ++ n ∷ []) o → isSome o ≡ among (textOf n) (map textOf xs)
   repeat-means None apart first =
       sym (ap isSome (seek-none (λ x. x) (textOf n) (map textOf xs) (λ k l d.
-        let l′ : k < length xs = omega (arith, length-map xs textOf) in
-        let other = first (length xs) (omega (arith, length-push xs n)) k l′ n in
-        let a = getD-append-left xs (n ∷ []) n k l′ in
-        let b = getD-push xs n n (length xs) refl in
-        let c = getD-map textOf xs k n d l′ in
-        cc)))
+      let l′ : k < length xs = omega (arith, length-map xs textOf) in
+      let other = first (length xs) (omega (arith, length-push xs n)) k l′ n in
+      let a = getD-append-left xs (n ∷ []) n k l′ in
+      let b = getD-push xs n n (length xs) refl in
+      let c = getD-map textOf xs k n d l′ in
+      cc)))
   repeat-means (Some k) apart first =
       elim (cases-bool (among (textOf n) (map textOf xs))) [
-        inl known ↦ sym known
-      | inr new ↦ absurd (both-ways _ (differ (subst NamesApart (sym names-of) (apart-push (map textOf xs) (textOf n) apart new)) (first .1 .0) k (first .1 .1) (first .0)) (first .1 .2 n))
+        | inl known ↦ sym known
+        | inr new ↦ absurd (both-ways _ (differ (subst NamesApart (sym names-of) (apart-push (map textOf xs) (textOf n) apart new)) (first .1 .0) k (first .1 .1) (first .0)) (first .1 .2 n))
       ]

@@ -51,8 +51,8 @@ module _ {X : Type 0} (called : X → Text) (t : Text) where
   seek-absent [] e = λ k l d. absurd (omega arith)
   seek-absent (x ∷ xs) e =
       elim (cases-bool (Is x)) [
-        inl first ↦ some-not-none 0 _ (sym (cond-true (Is x) (Some 0) (mapped suc (seek called t xs)) first) ∙ e)
-      | inr first ↦ none-more x xs first (seek-absent xs (none-before (seek called t xs) (sym (cond-false (Is x) (Some 0) (mapped suc (seek called t xs)) first) ∙ e)))
+        | inl first ↦ some-not-none 0 _ (sym (cond-true (Is x) (Some 0) (mapped suc (seek called t xs)) first) ∙ e)
+        | inr first ↦ none-more x xs first (seek-absent xs (none-before (seek called t xs) (sym (cond-false (Is x) (Some 0) (mapped suc (seek called t xs)) first) ∙ e)))
       ]
 
   -- the comparison of an element that was read
@@ -63,8 +63,8 @@ module _ {X : Type 0} (called : X → Text) (t : Text) where
   seek-inside [] i e = some-not-none i _ (sym e)
   seek-inside (x ∷ xs) i e =
       elim (cases-bool (Is x)) [
-        inl first ↦ let z : Some 0 ≡ Some i = sym (cond-true (Is x) (Some 0) (mapped suc (seek called t xs)) first) ∙ e in let h : 0 ≡ i = cc in omega arith
-      | inr first ↦ after (seek called t xs) i (seek-inside xs) (sym (cond-false (Is x) (Some 0) (mapped suc (seek called t xs)) first) ∙ e)
+        | inl first ↦ let z : Some 0 ≡ Some i = sym (cond-true (Is x) (Some 0) (mapped suc (seek called t xs)) first) ∙ e in let h : 0 ≡ i = cc in omega arith
+        | inr first ↦ after (seek called t xs) i (seek-inside xs) (sym (cond-false (Is x) (Some 0) (mapped suc (seek called t xs)) first) ∙ e)
       ]
     where
       after : (o : Option ℕ) (i : ℕ) → ((j : ℕ) → o ≡ Some j → j < length xs) → mapped suc o ≡ Some i → i < suc (length xs)
@@ -83,8 +83,8 @@ pub seek-is : (t : Text) (xs : List Text) (i : ℕ) → seek (λ x. x) t xs ≡ 
 seek-is t [] i e = some-not-none i _ (sym e)
 seek-is t (x ∷ xs) i e =
     elim (cases-bool (sameBytes x t)) [
-      inl first ↦ (let z : Some 0 ≡ Some i = sym (cond-true (sameBytes x t) (Some 0) (mapped suc (seek (λ x. x) t xs)) first) ∙ e in let h : 0 ≡ i = cc in ap (λ k. getD (x ∷ xs) k []) (sym h) ∙ same-is x t first)
-    | inr first ↦ later (seek (λ x. x) t xs) i (seek-is t xs) (sym (cond-false (sameBytes x t) (Some 0) (mapped suc (seek (λ x. x) t xs)) first) ∙ e)
+      | inl first ↦ (let z : Some 0 ≡ Some i = sym (cond-true (sameBytes x t) (Some 0) (mapped suc (seek (λ x. x) t xs)) first) ∙ e in let h : 0 ≡ i = cc in ap (λ k. getD (x ∷ xs) k []) (sym h) ∙ same-is x t first)
+      | inr first ↦ later (seek (λ x. x) t xs) i (seek-is t xs) (sym (cond-false (sameBytes x t) (Some 0) (mapped suc (seek (λ x. x) t xs)) first) ∙ e)
     ]
   where
     later : (o : Option ℕ) (i : ℕ) → ((j : ℕ) → o ≡ Some j → getD xs j [] ≡ t) → mapped suc o ≡ Some i → getD (x ∷ xs) i [] ≡ t

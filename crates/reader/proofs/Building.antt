@@ -80,7 +80,7 @@ module _ (c : Content) (wf : WellFormed c) where
       let long = length-take-le k (c .messages) (omega arith) in
       let names-long = length-map (c .messages) (λ (p : Post). p .name) in
       let new : messageCalled (upTo es k) (messageName c k) ≡ false =
-          (let h = wf .messages-apart k (omega arith) in let a = front-names k in let b = getD-map (λ (p : Post). p .name) (c .messages) k nobody [] low in cc) in
+      (let h = wf .messages-apart k (omega arith) in let a = front-names k in let b = getD-map (λ (p : Post). p .name) (c .messages) k nobody [] low in cc) in
       subst (Moves (upTo es k) Lines (lineOf c (sent k)))
       (same-content (c .title) refl (sym (take-more (c .messages) k nobody low) ∙ ap (λ j. take j (c .messages)) (add-one k)) (ap (λ j. es ++ sent j ∷ []) long))
       (draws (named-instance (senderOf c k) (e .0)) (found-instance (senderOf c k) (e .0))
@@ -96,7 +96,7 @@ module _ (c : Content) (wf : WellFormed c) where
       let front-long = length-take-le k (messageNames c) (omega arith) in
       let name-at : getD (take k (messageNames c)) m [] ≡ messageName c m = getD-take k (messageNames c) m [] low ∙ getD-map (λ (p : Post). p .name) (c .messages) m nobody [] inside in
       let found : seek (λ x. x) (messageName c m) (messageNames (upTo es k)) ≡ Some m =
-          ap (seek (λ x. x) (messageName c m)) (front-names k) ∙ ap (λ t. seek (λ x. x) t (take k (messageNames c))) (sym name-at) ∙ seek-apart (take k (messageNames c)) m (apart-take (messageNames c) k (omega arith) (wf .messages-apart)) (omega arith) in
+      ap (seek (λ x. x) (messageName c m)) (front-names k) ∙ ap (λ t. seek (λ x. x) t (take k (messageNames c))) (sym name-at) ∙ seek-apart (take k (messageNames c)) m (apart-take (messageNames c) k (omega arith) (wf .messages-apart)) (omega arith) in
       let once = wf .all-received m inside in
       let total = ap (countBy (isReceived m)) here ∙ sumBy-append _ es (received m ∷ rest) in
       let one = count-yes (isReceived m) (received m) rest (eq-eqb m m refl) in

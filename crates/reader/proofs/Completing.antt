@@ -43,7 +43,7 @@ module _ (c : Content) (wf : WellFormed c) (first : Text) (xs : List Text) (list
       let after-list : List Sign = joined (lineOf c) (c .events) ++ written (codes "endmsc") ∷ semicolonSign ∷ [] in
       let a = spells-takes n bs (furtherNames xs ++ semicolonSign ∷ []) after-list (subst (λ (ts : List Sign). Spells ts bs) (sym (append-assoc (furtherNames xs) (semicolonSign ∷ []) after-list)) h) in
       let b = spells-takes n (a .0) (joined (lineOf c) (c .events) ++ written (codes "endmsc") ∷ []) (semicolonSign ∷ [])
-          (subst (λ (ts : List Sign). Spells ts (a .0)) (sym (append-assoc (joined (lineOf c) (c .events)) (written (codes "endmsc") ∷ []) (semicolonSign ∷ []))) (a .2)) in
+      (subst (λ (ts : List Sign). Spells ts (a .0)) (sym (append-assoc (joined (lineOf c) (c .events)) (written (codes "endmsc") ∷ []) (semicolonSign ∷ []))) (a .2)) in
       let named = subst (All (λ t. isName t ≡ true)) listed (wf .instance-names) in
       let all-listed = list-built (c .title) (first ∷ []) xs (subst NamesApart listed (wf .instances-apart)) (named .1) (omega (arith, ap length listed, wf .few-instances)) in
       let i = steps-do (suc (length bs)) n bs (a .0) all-listed (a .1) (omega arith) in

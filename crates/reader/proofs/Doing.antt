@@ -107,7 +107,7 @@ not-end t good =
 
 module _ (n : ℕ) (c : Content) where
   out-does : (s : ℕ) (bs q : Text) (u v : Text) (r : ℕ) → isName u ≡ true → isName v ≡ true → messageCalled c u ≡ false → length (c .messages) < 64 → seek (λ x. x) v (c .instances) ≡ Some r → (s ≡ r → ⊥)
-    → Takes n bs (written u ∷ written (codes "to") ∷ written v ∷ semicolonSign ∷ []) q → outLine n c s bs ≡ Ok (withMessage c u s r, q)
+      → Takes n bs (written u ∷ written (codes "to") ∷ written v ∷ semicolonSign ∷ []) q → outLine n c s bs ≡ Ok (withMessage c u s r, q)
   out-does s bs q u v r name other new few found apart h =
       let b₁ : Text = left (left bs) in
       let last : Text → Outcome (Content × Text) = λ bs₂. Ok (withMessage c u s r, bs₂) in
@@ -120,13 +120,13 @@ module _ (n : ℕ) (c : Content) where
       w₁ .1 ∙ then-does _ m ∙ then-does _ k ∙ w₂ .1 ∙ then-does _ o ∙ then-does last e
 
   in-does : (i : ℕ) (bs q : Text) (u v : Text) (m : ℕ) → isName u ≡ true → isName v ≡ true → seek (λ x. x) u (messageNames c) ≡ Some m → ltb 0 (timesReceived c m) ≡ false → receiverOf c m ≡ i → seek (λ x. x) v (c .instances) ≡ Some (senderOf c m)
-    → Takes n bs (written u ∷ written (codes "from") ∷ written v ∷ semicolonSign ∷ []) q → inLine n c i bs ≡ Ok (withReceipt c m, q)
+      → Takes n bs (written u ∷ written (codes "from") ∷ written v ∷ semicolonSign ∷ []) q → inLine n c i bs ≡ Ok (withReceipt c m, q)
   in-does i bs q u v m name other found new at from′ h =
       let b₁ : Text = left (left bs) in
       let last : Text → Outcome (Content × Text) = λ bs₂. Ok (withReceipt c m, bs₂) in
       let w₁ = word-does (lexeme n bs) u (λ t p. then (sentMessageAt c i t p) (λ m. then (keywordFrom (codes "from") n (left bs)) (λ bs₁. onWord (lexeme n bs₁) (λ t₁ p₁. then (senderIs c (senderOf c m) t₁ p₁) (λ _. then (semicolonFrom n (left bs₁)) (λ bs₂. Ok (withReceipt c m, bs₂))))))) (h .0) in
       let f : sentMessageAt c i u (w₁ .0) ≡ Ok m =
-          then-does _ (name-does u (w₁ .0) name) ∙ ap (sentBy c i (w₁ .0)) found ∙ cond-false (ltb 0 (timesReceived c m)) (Err (NotAsSent (w₁ .0))) _ new ∙ cond-true (eqb (receiverOf c m) i) (Ok m) (Err (NotAsSent (w₁ .0))) (eq-eqb (receiverOf c m) i at) in
+      then-does _ (name-does u (w₁ .0) name) ∙ ap (sentBy c i (w₁ .0)) found ∙ cond-false (ltb 0 (timesReceived c m)) (Err (NotAsSent (w₁ .0))) _ new ∙ cond-true (eqb (receiverOf c m) i) (Ok m) (Err (NotAsSent (w₁ .0))) (eq-eqb (receiverOf c m) i at) in
       let k = keyword-does (codes "from") n (left bs) b₁ (h .1 .0, refl) in
       let w₂ = word-does (lexeme n b₁) v (λ t₁ p₁. then (senderIs c (senderOf c m) t₁ p₁) (λ _. then (semicolonFrom n (left b₁)) (λ bs₂. Ok (withReceipt c m, bs₂)))) (h .1 .1 .0) in
       let o : senderIs c (senderOf c m) v (w₂ .0) ≡ Ok tt = then-does _ (instance-does c v (w₂ .0) (senderOf c m) other from′) ∙ cond-true (eqb (senderOf c m) (senderOf c m)) (Ok tt) (Err (NotAsSent (w₂ .0))) (eq-eqb (senderOf c m) (senderOf c m) refl) in

@@ -39,7 +39,7 @@ ending-spells n bs u h =
 
 -- past the first name of the list: the further names, the lines, and the end
 body-sound : (n : ℕ) (title first bs : Text) (d : Content) → bodyFrom n (begun title first) bs ≡ Ok d → Stage (begun title first)
-  → (xs : List Text) × (Stage d) × (allReceived d ≡ true) × (d .title ≡ title) × (d .instances ≡ first ∷ xs)
+    → (xs : List Text) × (Stage d) × (allReceived d ≡ true) × (d .title ≡ title) × (d .instances ≡ first ∷ xs)
     × Spells (furtherNames xs ++ semicolonSign ∷ (joined (lineOf d) (d .events) ++ written (codes "endmsc") ∷ semicolonSign ∷ [])) bs
 body-sound n title first bs d h stage =
     let pi = then-ok (partFrom Instances n (begun title first) bs) _ d h in
@@ -53,20 +53,25 @@ body-sound n title first bs d h stage =
     let lined = lines-read (tl .2) in
     let events : joined (lineOf (pl .0 .0)) (pl .0 .0 .events) ≡ tl .0 = ap (joined (lineOf (pl .0 .0))) (lined .more-events ∙ ap (λ x. x .events ++ lined .happenings) (listed .1)) ∙ sym (lined .spelled) in
     let lines-spelled : Spells (tl .0 ++ written (codes "endmsc") ∷ semicolonSign ∷ []) (pi .0 .2) =
-        subst (λ (ts : List Sign). Spells ts (pi .0 .2)) (append-assoc (tl .0) (written (codes "endmsc") ∷ []) (semicolonSign ∷ []))
-        (takes-spells n (pi .0 .2) (tl .0 ++ written (codes "endmsc") ∷ []) (semicolonSign ∷ []) (pl .0 .2) (tl .1) (ending-spells n (pl .0 .2) (en .0) (en .1))) in
+    subst (λ (ts : List Sign). Spells ts (pi .0 .2)) (append-assoc (tl .0) (written (codes "endmsc") ∷ []) (semicolonSign ∷ []))
+    (takes-spells n (pi .0 .2) (tl .0 ++ written (codes "endmsc") ∷ []) (semicolonSign ∷ []) (pl .0 .2) (tl .1) (ending-spells n (pl .0 .2) (en .0) (en .1))) in
     let all-spelled : Spells (ti .0 ++ semicolonSign ∷ (tl .0 ++ written (codes "endmsc") ∷ semicolonSign ∷ [])) bs =
-        subst (λ (ts : List Sign). Spells ts bs) (append-assoc (ti .0) (semicolonSign ∷ []) (tl .0 ++ written (codes "endmsc") ∷ semicolonSign ∷ []))
-        (takes-spells n bs (ti .0 ++ semicolonSign ∷ []) (tl .0 ++ written (codes "endmsc") ∷ semicolonSign ∷ []) (pi .0 .2) (ti .1) lines-spelled) in
+    subst (λ (ts : List Sign). Spells ts bs) (append-assoc (ti .0) (semicolonSign ∷ []) (tl .0 ++ written (codes "endmsc") ∷ semicolonSign ∷ []))
+    (takes-spells n bs (ti .0 ++ semicolonSign ∷ []) (tl .0 ++ written (codes "endmsc") ∷ semicolonSign ∷ []) (pi .0 .2) (ti .1) lines-spelled) in
     subst (λ (e : Content). (xs : List Text) × (Stage e) × (allReceived e ≡ true) × (e .title ≡ title) × (e .instances ≡ first ∷ xs)
-      × Spells (furtherNames xs ++ semicolonSign ∷ (joined (lineOf e) (e .events) ++ written (codes "endmsc") ∷ semicolonSign ∷ [])) bs) same
-    (listed .0, many-stage (tl .2) (many-stage (ti .2) stage), ar .0, lined .same-title ∙ ap (λ x. x .title) (listed .1), lined .same-instances ∙ ap (λ x. x .instances) (listed .1),
-     subst (λ (ts : List Sign). Spells (furtherNames (listed .0) ++ semicolonSign ∷ (ts ++ written (codes "endmsc") ∷ semicolonSign ∷ [])) bs) (sym events)
-     (subst (λ (ts : List Sign). Spells (ts ++ semicolonSign ∷ (tl .0 ++ written (codes "endmsc") ∷ semicolonSign ∷ [])) bs) (listed .2) all-spelled))
+    × Spells (furtherNames xs ++ semicolonSign ∷ (joined (lineOf e) (e .events) ++ written (codes "endmsc") ∷ semicolonSign ∷ [])) bs) same (
+      listed .0,
+      many-stage (tl .2) (many-stage (ti .2) stage),
+      ar .0,
+      lined .same-title ∙ ap (λ x. x .title) (listed .1),
+      lined .same-instances ∙ ap (λ x. x .instances) (listed .1),
+      subst (λ (ts : List Sign). Spells (furtherNames (listed .0) ++ semicolonSign ∷ (ts ++ written (codes "endmsc") ∷ semicolonSign ∷ [])) bs) (sym events)
+          (subst (λ (ts : List Sign). Spells (ts ++ semicolonSign ∷ (tl .0 ++ written (codes "endmsc") ∷ semicolonSign ∷ [])) bs) (listed .2) all-spelled),
+    )
 
 -- `msc` t₁ `;` `inst` t₂, and what follows
 heading-spells : (n : ℕ) (bs b₁ b₂ b₃ t₁ t₂ : Text) (us : List Sign) → Takes n bs (written (codes "msc") ∷ []) b₁ → Shows (written t₁) (lexeme n b₁) → Takes n (left b₁) (semicolonSign ∷ []) b₂ → Takes n b₂ (written (codes "inst") ∷ []) b₃ → Shows (written t₂) (lexeme n b₃) → Spells us (left b₃)
-  → Spells (written (codes "msc") ∷ written t₁ ∷ semicolonSign ∷ written (codes "inst") ∷ written t₂ ∷ us) bs
+    → Spells (written (codes "msc") ∷ written t₁ ∷ semicolonSign ∷ written (codes "inst") ∷ written t₂ ∷ us) bs
 heading-spells n bs b₁ b₂ b₃ t₁ t₂ us msc title mark′ inst first rest =
     let from-inst = takes-then n b₂ (written (codes "inst") ∷ []) (written t₂ ∷ []) b₃ (left b₃) inst (first, refl) in
     let from-mark = takes-then n (left b₁) (semicolonSign ∷ []) (written (codes "inst") ∷ written t₂ ∷ []) b₂ (left b₃) mark′ from-inst in
@@ -89,11 +94,11 @@ reading-sound bs c h =
     let b = body-sound n (n₁ .0) (n₂ .0) (left (k₂ .0)) c (n₂ .2) (begun-stage (n₁ .0) (n₂ .0) (subst (λ (t : Text). isName t ≡ true) (title .0) (title .1)) (subst (λ (t : Text). isName t ≡ true) (first .0) (first .1))) in
     let lines : List Sign = joined (lineOf c) (c .events) in
     let whole = heading-spells n bs (k₁ .0) (s₁ .0) (k₂ .0) (w₁ .0) (w₂ .0) (furtherNames (b .0) ++ semicolonSign ∷ (lines ++ written (codes "endmsc") ∷ semicolonSign ∷ []))
-        (keyword-ok (codes "msc") n bs (k₁ .0) (k₁ .1)) (w₁ .2) (semicolon-read n (left (k₁ .0)) (s₁ .0) (s₁ .1)) (keyword-ok (codes "inst") n (s₁ .0) (k₂ .0) (k₂ .1)) (w₂ .2) (b .5) in
+    (keyword-ok (codes "msc") n bs (k₁ .0) (k₁ .1)) (w₁ .2) (semicolon-read n (left (k₁ .0)) (s₁ .0) (s₁ .1)) (keyword-ok (codes "inst") n (s₁ .0) (k₂ .0) (k₂ .1)) (w₂ .2) (b .5) in
     record {
       fits = ltb-false 16384 n (a .0);
       well-formed = all-formed c (b .1) (b .2);
       spelled = subst (λ (ts : List Sign). Spells ts bs)
-        (ap (λ t. frame t (w₂ .0 ∷ b .0) lines) (title .0 ∙ sym (b .3)) ∙ ap (λ ts. frame (c .title) ts lines) (ap (λ t. t ∷ b .0) (first .0) ∙ sym (b .4)))
-        whole;
+          (ap (λ t. frame t (w₂ .0 ∷ b .0) lines) (title .0 ∙ sym (b .3)) ∙ ap (λ ts. frame (c .title) ts lines) (ap (λ t. t ∷ b .0) (first .0) ∙ sym (b .4)))
+          whole;
     }

@@ -120,13 +120,14 @@ all-formed c s all =
 
 -- the list of instances: the names that were added, and their tokens
 pub instances-read : {c d : Content} {ts : List Sign} → Many Instances c ts d
-  → (xs : List Text) × (d ≡ record { title = c .title; instances = c .instances ++ xs; messages = c .messages; events = c .events }) × (ts ≡ furtherNames xs)
+    → (xs : List Text) × (d ≡ record { title = c .title; instances = c .instances ++ xs; messages = c .messages; events = c .events }) × (ts ≡ furtherNames xs)
 instances-read {c} done = ([], ap (λ l. record { title = c .title; instances = l; messages = c .messages; events = c .events }) (sym (append-nil (c .instances))), refl)
 instances-read {c} (again (lists {t} name few new) rest) =
-    let r = instances-read rest in
-    (t ∷ r .0,
-     r .1 ∙ ap (λ l. record { title = c .title; instances = l; messages = c .messages; events = c .events }) (append-assoc (c .instances) (t ∷ []) (r .0)),
-     ap (λ l. commaSign ∷ written t ∷ l) (r .2))
+    let r = instances-read rest in (
+      t ∷ r .0,
+      r .1 ∙ ap (λ l. record { title = c .title; instances = l; messages = c .messages; events = c .events }) (append-assoc (c .instances) (t ∷ []) (r .0)),
+      ap (λ l. commaSign ∷ written t ∷ l) (r .2),
+    )
 
 -- what the lines added, and their tokens
 pub record Grown (c d : Content) (ts : List Sign) : Type 0 where
@@ -155,24 +156,36 @@ same-so (receives a b e f g h) = refl
 
 -- the event that a line added, and its tokens as the final chart has them
 line-read : (d : Content) {c c′ : Content} {i : ℕ} {ts : List Sign} (t : Text) (posts : List Post) → seek (λ x. x) t (c .instances) ≡ Some i → Adds c i ts c′ → d .instances ≡ c .instances → d .messages ≡ c′ .messages ++ posts
-  → (e : Happening) × (more : List Post) × (c′ .title ≡ c .title) × (c′ .instances ≡ c .instances) × (c′ .messages ≡ c .messages ++ more) × (c′ .events ≡ c .events ++ e ∷ []) × (written t ∷ ts ≡ lineOf d e)
+    → (e : Happening) × (more : List Post) × (c′ .title ≡ c .title) × (c′ .instances ≡ c .instances) × (c′ .messages ≡ c .messages ++ more) × (c′ .events ≡ c .events ++ e ∷ []) × (written t ∷ ts ≡ lineOf d e)
 line-read d {c} {c′} {i} t posts owner (sends {u} {v} {r} name other new few found apart) instances messages =
     let k : ℕ = length (c .messages) in
     let p : Post = record { name = u; sender = i; receiver = r } in
-    let here : getD (d .messages) k nobody ≡ p = kept-message (withMessage c u i r) d posts messages k (omega (arith, length-push (c .messages) p)) ∙ getD-push (c .messages) p nobody k refl in
-    (sent k, p ∷ [], refl, refl, refl, refl,
-     same-line (codes "out") (codes "to")
-     (sym (ap (λ q. getD (d .instances) (q .sender) []) here ∙ ap (λ l. getD l i []) instances ∙ seek-is t (c .instances) i owner))
-     (sym (ap (λ q. q .name) here))
-     (sym (ap (λ q. getD (d .instances) (q .receiver) []) here ∙ ap (λ l. getD l r []) instances ∙ seek-is v (c .instances) r found)))
+    let here : getD (d .messages) k nobody ≡ p = kept-message (withMessage c u i r) d posts messages k (omega (arith, length-push (c .messages) p)) ∙ getD-push (c .messages) p nobody k refl in (
+      sent k,
+      p ∷ [],
+      refl,
+      refl,
+      refl,
+      refl,
+      same-line (codes "out") (codes "to")
+          (sym (ap (λ q. getD (d .instances) (q .sender) []) here ∙ ap (λ l. getD l i []) instances ∙ seek-is t (c .instances) i owner))
+          (sym (ap (λ q. q .name) here))
+          (sym (ap (λ q. getD (d .instances) (q .receiver) []) here ∙ ap (λ l. getD l r []) instances ∙ seek-is v (c .instances) r found)),
+    )
 line-read d {c} {c′} {i} t posts owner (receives {u} {v} {m} name other found new at from′) instances messages =
     let low : m < length (c .messages) = omega (arith, seek-inside (λ x. x) u (messageNames c) m found, length-map (c .messages) (λ (q : Post). q .name)) in
-    let here : getD (d .messages) m nobody ≡ getD (c .messages) m nobody = kept-message c d posts messages m low in
-    (received m, [], refl, refl, sym (append-nil (c .messages)), refl,
-     same-line (codes "in") (codes "from")
-     (sym (ap (λ q. getD (d .instances) (q .receiver) []) here ∙ ap (λ l. getD l (receiverOf c m) []) instances ∙ ap (λ k. getD (c .instances) k []) at ∙ seek-is t (c .instances) i owner))
-     (sym (ap (λ q. q .name) here ∙ sym (getD-map (λ (q : Post). q .name) (c .messages) m nobody [] low) ∙ seek-is u (messageNames c) m found))
-     (sym (ap (λ q. getD (d .instances) (q .sender) []) here ∙ ap (λ l. getD l (senderOf c m) []) instances ∙ seek-is v (c .instances) (senderOf c m) from′)))
+    let here : getD (d .messages) m nobody ≡ getD (c .messages) m nobody = kept-message c d posts messages m low in (
+      received m,
+      [],
+      refl,
+      refl,
+      sym (append-nil (c .messages)),
+      refl,
+      same-line (codes "in") (codes "from")
+          (sym (ap (λ q. getD (d .instances) (q .receiver) []) here ∙ ap (λ l. getD l (receiverOf c m) []) instances ∙ ap (λ k. getD (c .instances) k []) at ∙ seek-is t (c .instances) i owner))
+          (sym (ap (λ q. q .name) here ∙ sym (getD-map (λ (q : Post). q .name) (c .messages) m nobody [] low) ∙ seek-is u (messageNames c) m found))
+          (sym (ap (λ q. getD (d .instances) (q .sender) []) here ∙ ap (λ l. getD l (senderOf c m) []) instances ∙ seek-is v (c .instances) (senderOf c m) from′)),
+    )
 
 pub lines-read : {c d : Content} {ts : List Sign} → Many Lines c ts d → Grown c d ts
 lines-read {c} done =

@@ -12,17 +12,17 @@ use super::lines::name_at;
 use super::lines::semicolon;
 use super::lines::unwanted;
 use super::refusals::Refusal;
-use super::steps::whole_part;
 use super::steps::Part;
-use super::tokens::next_token;
+use super::steps::whole_part;
 use super::tokens::Token;
+use super::tokens::next_token;
+use crate::refusals::RefusalDebug;
+use crate::refusals::RefusalPartialEq;
 use chart::charting::Chart;
 use chart::drafting::Draft;
 use chart::names::Name;
 use std::alloc::AllocError;
 use std::alloc::Global;
-use crate::refusals::RefusalDebug;
-use crate::refusals::RefusalPartialEq;
 
 // The longest text that is read, in bytes.
 pub const TEXT_LIMIT: usize = 16_384;

@@ -8,8 +8,8 @@ use super::lines::further_instance;
 use super::lines::instance_at;
 use super::lines::unwanted;
 use super::refusals::Refusal;
-use super::tokens::next_token;
 use super::tokens::Token;
+use super::tokens::next_token;
 use chart::drafting::Draft;
 use chart::words::same_text;
 
@@ -61,7 +61,12 @@ fn next_line<'a>(draft: &mut Draft, rest: &'a [u8], whole: usize) -> Result<Step
     Ok(Step::More(rest))
 }
 
-fn next_step<'a>(part: Part, draft: &mut Draft, rest: &'a [u8], whole: usize) -> Result<Step<'a>, Refusal>
+fn next_step<'a>(
+    part: Part,
+    draft: &mut Draft,
+    rest: &'a [u8],
+    whole: usize,
+) -> Result<Step<'a>, Refusal>
     ensures { λ r. ⌜ stepRead r (drafted (now (draft .exit))) ≡ stepOf part whole (drafted (now (draft .entry))) (now (rest .entry)) ⌝ }
 {
     match part {
@@ -71,7 +76,12 @@ fn next_step<'a>(part: Part, draft: &mut Draft, rest: &'a [u8], whole: usize) ->
 }
 
 // A part to its end: the place where it ended, and what is left.
-pub(crate) fn whole_part<'a>(part: Part, draft: &mut Draft, rest: &'a [u8], whole: usize) -> Result<(usize, &'a [u8]), Refusal>
+pub(crate) fn whole_part<'a>(
+    part: Part,
+    draft: &mut Draft,
+    rest: &'a [u8],
+    whole: usize,
+) -> Result<(usize, &'a [u8]), Refusal>
     ensures { λ r. ⌜ partRead r (drafted (now (draft .exit))) ≡ partFrom part whole (drafted (now (draft .entry))) (now (rest .entry)) ⌝ }
 {
     let mut unread = rest;

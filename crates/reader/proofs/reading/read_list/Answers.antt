@@ -11,11 +11,11 @@ returns-in-Break-chart c =
     let p = err-from-errBy (c .from-residual-in-Break-chart .result) (c .from-residual-in-Break-chart .ensures .1) in
     rw (p .1, p .2)
     (list-goes (c .args .whole) (textOf (c .args .title)) (c .args .rest .now) (c .in-Continue-rest .rest .now) (c .next-token .result .1 .now) (c .in-Word .word .now) (textOf (c .in-Continue-first .first)) (c .in-Word .at) (drafted (c .in-Continue-draft .draft))
-      (c .in-Continue-rest .ensures tt) (sym (ap seen (c .in-Word .is)) ∙ c .next-token .ensures .token) (c .next-token .ensures .rest) (c .in-Continue-first .ensures tt) (c .in-Continue-draft .ensures tt)
+    (c .in-Continue-rest .ensures tt) (sym (ap seen (c .in-Word .is)) ∙ c .next-token .ensures .token) (c .next-token .ensures .rest) (c .in-Continue-first .ensures tt) (c .in-Continue-draft .ensures tt)
     ∙ sym (c .in-Break-chart .ensures tt))
 
 pub returns : need.returns
 returns c =
     list-goes (c .args .whole) (textOf (c .args .title)) (c .args .rest .now) (c .in-Continue-rest .rest .now) (c .next-token .result .1 .now) (c .in-Word .word .now) (textOf (c .in-Continue-first .first)) (c .in-Word .at) (drafted (c .in-Continue-draft .draft))
-      (c .in-Continue-rest .ensures tt) (sym (ap seen (c .in-Word .is)) ∙ c .next-token .ensures .token) (c .next-token .ensures .rest) (c .in-Continue-first .ensures tt) (c .in-Continue-draft .ensures tt)
+    (c .in-Continue-rest .ensures tt) (sym (ap seen (c .in-Word .is)) ∙ c .next-token .ensures .token) (c .next-token .ensures .rest) (c .in-Continue-first .ensures tt) (c .in-Continue-draft .ensures tt)
     ∙ sym (c .in-Continue-chart .ensures tt)
