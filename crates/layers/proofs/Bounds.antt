@@ -1,0 +1,60 @@
+-- What a bound answers, from what the delivery below answers.
+use mathlib.Core.Path.{_≡_, refl, ap}
+use mathlib.Core.List.{List, [], _∷_, _++_}
+use mathlib.Core.Bool.{Bool, true, false}
+use mathlib.Core.Logic.{inr}
+use Prim.Native.Nat.{ℕ, _≤_, _<_, min}
+use native.Mathlib.Omega.{arith}
+use lib.ListN.{length}
+use Rattle.std.proofs.shelf.Lists.{length-push}
+use Rattle.std.proofs.shelf.Tests.{lt-ltb, leb-false}
+use Rattle.std.specs.declared.result.Result.{Result}
+use Rattle.std.specs.declared.result.Result.the-variants.{Ok, Err}
+use Rattle.delivery.specs.declared.parcel.Parcel.{Parcel}
+use Rattle.delivery.specs.declared.parcel.Tag.{Tag}
+use Rattle.delivery.specs.declared.refusal.Accepted.{Accepted}
+use Rattle.delivery.specs.declared.refusal.PutRefusal.{PutRefusal}
+use Rattle.delivery.specs.declared.refusal.PutRefusal.the-variants.{Far, Double, Full}
+use Rattle.delivery.specs.declared.refusal.TakeRefusal.{TakeRefusal}
+use Rattle.delivery.specs.declared.refusal.TakeRefusal.the-variants.{Absent, Held}
+use Rattle.delivery.specs.Answers.{Ground, Welcome, Put, Take, PutNames, TakeNames}
+use Rattle.delivery.specs.Waiting.{without}
+use Rattle.delivery.proofs.Distinct.{length-without}
+use Rattle.layers.specs.Layers.{put-deeper, take-deeper, BoundNames, shut-at}
+use Rattle.layers.proofs.Passed.{put-told, take-told}
+
+-- a put that the bound lets through
+module _ (limit room : ℕ) (w : List Parcel) (p : Parcel) (unshut : shut-at limit (p .message .0) w ≡ false) where
+  spare : Welcome (p .message .0) w → length w < limit
+  spare ok =
+      let inner = rw (lt-ltb (p .message .0) 64 (ok .0), ok .1) at unshut in
+      leb-false limit (length w) inner
+
+  pub bound-put : (r : Result Accepted PutRefusal) (w′ : List Parcel) → Put room w p r w′ → Put (min limit room) w p (put-told r) w′
+  bound-put (Ok a) w′ h = let lt = spare (h .0) in (h .0, omega (arith, h .1), h .2)
+  bound-put (Err (Far l)) w′ h = h
+  bound-put (Err (Double l)) w′ h = h
+  bound-put (Err (Full l)) w′ h = ((h .0 .0, omega (arith, h .0 .1)), h .1)
+
+  pub bound-length : (r : Result Accepted PutRefusal) (w′ : List Parcel) → length w ≤ limit → Put room w p r w′ → length w′ ≤ limit
+  bound-length (Ok a) w′ le h = let lt = spare (h .0) in omega (arith, ap length (h .2), length-push w p)
+  bound-length (Err e) w′ le h = omega (arith, ap length (h .1))
+
+  pub bound-named : (names : Ground → ℕ → Type 0) (e : PutRefusal) (w′ : List Parcel) → Put room w p (Err e) w′ → PutNames names (Err e) → PutNames (BoundNames limit w names) (Err (put-deeper e))
+  bound-named names (Far l) w′ h n = (l, refl, n)
+  bound-named names (Double l) w′ h n = (l, refl, n)
+  bound-named names (Full l) w′ h n = inr (spare (h .0 .0), (l, refl, n))
+
+module _ (rule : Tag → Tag → Bool) (w : List Parcel) (n : ℕ) where
+  pub taken-within : (limit : ℕ) (r : Result Parcel TakeRefusal) (w′ : List Parcel) → length w ≤ limit → Take rule w n r w′ → length w′ ≤ limit
+  taken-within limit (Ok p) w′ le h = omega (arith, ap length (h .2), length-without n w)
+  taken-within limit (Err e) w′ le h = omega (arith, ap length (h .1))
+
+  pub bound-take : (r : Result Parcel TakeRefusal) (w′ : List Parcel) → Take rule w n r w′ → Take rule w n (take-told r) w′
+  bound-take (Ok p) w′ h = h
+  bound-take (Err (Absent l)) w′ h = h
+  bound-take (Err (Held by l)) w′ h = h
+
+pub bound-take-named : (limit : ℕ) (w : List Parcel) (names : Ground → ℕ → Type 0) (e : TakeRefusal) → TakeNames names (Err e) → TakeNames (BoundNames limit w names) (Err (take-deeper e))
+bound-take-named limit w names (Absent l) n = (l, refl, n)
+bound-take-named limit w names (Held by l) n = (l, refl, n)

@@ -1,0 +1,4 @@
+pub mod Passed
+pub mod Bounds
+pub mod Tags
+pub mod Relays

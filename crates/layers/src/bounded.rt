@@ -1,0 +1,94 @@
+// A bound over any delivery.
+ghost use mathlib.Core.Path.{_≡_};
+ghost use Prim.Native.Nat.{_≤_, min};
+ghost use lib.ListN.{length};
+ghost use Rattle.layers.specs.Layers.{BoundNames, shut-at};
+ghost use Rattle.layers.specs.Made.{BoundMade};
+use crate::bound::Bound;
+use crate::deeper::put_from_below;
+use crate::deeper::take_from_below;
+use crate::unbuilt::Unbuilt;
+use chart::numbers::MessageId;
+use delivery::limits::MESSAGE_LIMIT;
+use delivery::meaning::Delivery;
+use delivery::parcel::Parcel;
+use delivery::parcel::Tag;
+use delivery::refusal::Accepted;
+use delivery::refusal::PutRefusal;
+use delivery::refusal::TakeRefusal;
+
+impl<D> Bound<D> {
+    pub fn new(below: D, number: u16) -> Result<Bound<D>, Unbuilt<D>>
+        ensures { λ r. ⌜ BoundMade below number r ⌝ }
+    {
+        if number < 1 || number > MESSAGE_LIMIT {
+            return Err(Unbuilt::BoundNumber { number, below });
+        }
+        Ok(Bound { below, limit: number })
+    }
+
+    pub fn into_below(self) -> D
+        ensures { λ r. ⌜ r ≡ self .below ⌝ }
+    {
+        let Bound { below, limit: _ } = self;
+        below
+    }
+}
+
+impl<D: Delivery> Bound<D> {
+    // Whether the bound itself refuses a parcel of this message as full: far and double go before full, and are told from below.
+    fn shut(&self, message: MessageId) -> bool
+        ensures { λ r. ⌜ (D·Delivery .started (now (self .entry) .below) → r ≡ shut-at (now (self .entry) .limit) (message .0) (D·Delivery .waiting (now (self .entry) .below))) ⌝ }
+    {
+        message.0 < MESSAGE_LIMIT && !self.below.waits(message) && self.below.count() >= self.limit as usize
+    }
+}
+
+pub impl<D: Delivery> Delivery for Bound<D> as BoundDelivery {
+    ghost waiting = { λ s. D·Delivery .waiting (s .below) };
+
+    ghost rule = { λ s. D·Delivery .rule (s .below) };
+
+    ghost room = { λ s. min (s .limit) (D·Delivery .room (s .below)) };
+
+    ghost started = { λ s. D·Delivery .started (s .below) × length (D·Delivery .waiting (s .below)) ≤ s .limit };
+
+    ghost names = { λ s. BoundNames (s .limit) (D·Delivery .waiting (s .below)) (D·Delivery .names (s .below)) };
+
+    fn put(&mut self, parcel: Parcel) -> Result<Accepted, PutRefusal> {
+        if self.shut(parcel.message) {
+            return Err(PutRefusal::Full { layer: 0 });
+        }
+        match self.below.put(parcel) {
+            Ok(accepted) => Ok(accepted),
+            Err(refusal) => Err(put_from_below(refusal)),
+        }
+    }
+
+    fn take(&mut self, message: MessageId) -> Result<Parcel, TakeRefusal> {
+        match self.below.take(message) {
+            Ok(parcel) => Ok(parcel),
+            Err(refusal) => Err(take_from_below(refusal)),
+        }
+    }
+
+    fn empty(&mut self) {
+        self.below.empty();
+    }
+
+    fn count(&self) -> usize {
+        self.below.count()
+    }
+
+    fn waits(&self, message: MessageId) -> bool {
+        self.below.waits(message)
+    }
+
+    fn holds(&self, first: Tag, second: Tag) -> bool {
+        self.below.holds(first, second)
+    }
+
+    fn capacity(&self) -> u16 {
+        self.limit.min(self.below.capacity())
+    }
+}

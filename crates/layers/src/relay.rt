@@ -1,0 +1,21 @@
+// The relay, by itself: its invariant.
+ghost use mathlib.Core.Path.{_≡_};
+ghost use Prim.Native.Nat.{_≤_};
+ghost use lib.ListN.{length};
+ghost use Rattle.delivery.specs.Waiting.{message-limit};
+use crate::group::Group;
+use delivery::parcel::Tag;
+use delivery::station::Station;
+
+// A layer through which a group of instances sends as one: below, the relay stands as the sender of all their parcels.
+#[derive(Drop)]
+pub struct Relay<D> {
+    pub(crate) below: D,
+    pub(crate) group: Group,
+    pub(crate) station: Station,
+    // the tag that each message was last put with, since below only the shown tag waits
+    pub(crate) given: [Tag; 64],
+    ghost low: { 16 ≤ station .number },
+    ghost high: { station .number ≤ 31 },
+    ghost places: { length given ≡ message-limit },
+}
