@@ -15,7 +15,13 @@ impl Station {
     pub fn new(number: u16) -> Option<Station>
         ensures { λ r. ⌜ Cases r (128 ≤ number) (λ s. s .number ≡ number) ⌝ }
     {
-        if number < 128 { Some(Station { number: number as u8 }) } else { None }
+        if number < 128 {
+            Some(Station {
+                number: number as u8,
+            })
+        } else {
+            None
+        }
     }
 
     pub fn number(self) -> u16

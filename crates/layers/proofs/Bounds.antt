@@ -18,16 +18,15 @@ use Rattle.delivery.specs.declared.refusal.PutRefusal.the-variants.{Far, Double
 use Rattle.delivery.specs.declared.refusal.TakeRefusal.{TakeRefusal}
 use Rattle.delivery.specs.declared.refusal.TakeRefusal.the-variants.{Absent, Held}
 use Rattle.delivery.specs.Answers.{Ground, Welcome, Put, Take, PutNames, TakeNames}
-use Rattle.delivery.specs.Waiting.{without}
+use Rattle.delivery.specs.Waiting.{message-limit}
 use Rattle.delivery.proofs.Distinct.{length-without}
-use Rattle.layers.specs.Layers.{put-deeper, take-deeper, BoundNames, shut-at}
-use Rattle.layers.proofs.Passed.{put-told, take-told}
+use Rattle.layers.specs.Layers.{put-told, take-told, BoundNames, shut-at}
 
 -- a put that the bound lets through
 module _ (limit room : ℕ) (w : List Parcel) (p : Parcel) (unshut : shut-at limit (p .message .0) w ≡ false) where
   spare : Welcome (p .message .0) w → length w < limit
   spare ok =
-      let inner = rw (lt-ltb (p .message .0) 64 (ok .0), ok .1) at unshut in
+      let inner = rw (lt-ltb (p .message .0) message-limit (ok .0), ok .1) at unshut in
       leb-false limit (length w) inner
 
   pub bound-put : (r : Result Accepted PutRefusal) (w′ : List Parcel) → Put room w p r w′ → Put (min limit room) w p (put-told r) w′
@@ -40,10 +39,11 @@ module _ (limit room : ℕ) (w : List Parcel) (p : Parcel) (unshut : shut-at lim
   bound-length (Ok a) w′ le h = let lt = spare (h .0) in omega (arith, ap length (h .2), length-push w p)
   bound-length (Err e) w′ le h = omega (arith, ap length (h .1))
 
-  pub bound-named : (names : Ground → ℕ → Type 0) (e : PutRefusal) (w′ : List Parcel) → Put room w p (Err e) w′ → PutNames names (Err e) → PutNames (BoundNames limit w names) (Err (put-deeper e))
-  bound-named names (Far l) w′ h n = (l, refl, n)
-  bound-named names (Double l) w′ h n = (l, refl, n)
-  bound-named names (Full l) w′ h n = inr (spare (h .0 .0), (l, refl, n))
+  pub bound-named : (names : Ground → ℕ → Type 0) (r : Result Accepted PutRefusal) (w′ : List Parcel) → Put room w p r w′ → PutNames names r → PutNames (BoundNames limit w names) (put-told r)
+  bound-named names (Ok a) w′ h n = tt
+  bound-named names (Err (Far l)) w′ h n = (l, refl, n)
+  bound-named names (Err (Double l)) w′ h n = (l, refl, n)
+  bound-named names (Err (Full l)) w′ h n = inr (spare (h .0 .0), (l, refl, n))
 
 module _ (rule : Tag → Tag → Bool) (w : List Parcel) (n : ℕ) where
   pub taken-within : (limit : ℕ) (r : Result Parcel TakeRefusal) (w′ : List Parcel) → length w ≤ limit → Take rule w n r w′ → length w′ ≤ limit
@@ -55,6 +55,7 @@ module _ (rule : Tag → Tag → Bool) (w : List Parcel) (n : ℕ) where
   bound-take (Err (Absent l)) w′ h = h
   bound-take (Err (Held by l)) w′ h = h
 
-pub bound-take-named : (limit : ℕ) (w : List Parcel) (names : Ground → ℕ → Type 0) (e : TakeRefusal) → TakeNames names (Err e) → TakeNames (BoundNames limit w names) (Err (take-deeper e))
-bound-take-named limit w names (Absent l) n = (l, refl, n)
-bound-take-named limit w names (Held by l) n = (l, refl, n)
+pub bound-take-named : (limit : ℕ) (w : List Parcel) (names : Ground → ℕ → Type 0) (r : Result Parcel TakeRefusal) → TakeNames names r → TakeNames (BoundNames limit w names) (take-told r)
+bound-take-named limit w names (Ok p) n = tt
+bound-take-named limit w names (Err (Absent l)) n = (l, refl, n)
+bound-take-named limit w names (Err (Held by l)) n = (l, refl, n)

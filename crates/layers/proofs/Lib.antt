@@ -1,4 +1,3 @@
-pub mod Passed
 pub mod Bounds
 pub mod Tags
 pub mod Relays

@@ -1,5 +1,5 @@
 -- What a relay answers, from what the delivery below answers.
-use mathlib.Core.Path.{_≡_, sym, ap, _∙_}
+use mathlib.Core.Path.{_≡_, refl, sym, ap, _∙_}
 use mathlib.Core.List.{List, []}
 use mathlib.Core.Bool.{Bool}
 use Prim.Native.Nat.{ℕ}
@@ -15,15 +15,23 @@ use Rattle.delivery.specs.declared.refusal.PutRefusal.{PutRefusal}
 use Rattle.delivery.specs.declared.refusal.PutRefusal.the-variants.{Far, Double, Full}
 use Rattle.delivery.specs.declared.refusal.TakeRefusal.{TakeRefusal}
 use Rattle.delivery.specs.declared.refusal.TakeRefusal.the-variants.{Absent, Held}
-use Rattle.delivery.specs.Answers.{Put, Take}
+use Rattle.delivery.specs.Answers.{Ground, Put, Take, PutNames, TakeNames}
 use Rattle.delivery.specs.Waiting.{message-limit, ahead-of, first-holder}
-use Rattle.layers.specs.Layers.{put-deeper, take-deeper}
-use Rattle.layers.specs.Shown.{given-tag, lifted, as-given, Agree}
+use Rattle.layers.specs.Layers.{put-deeper, take-told, Below}
+use Rattle.layers.specs.Shown.{given-tag, lifted, take-lifted, as-given, Agree}
 use Rattle.layers.proofs.Tags.{length-as-given, waits-as-given, parcel-as-given, without-as-given, as-given-push, agree-without, agree-push, agree-of, holder-as-given, as-given-noted, agree-noted}
 
-abbrev pub take-lifted : List Tag → Result Parcel TakeRefusal → Result Parcel TakeRefusal
-take-lifted given (Ok p) = Ok (lifted given p)
-take-lifted given (Err e) = Err (take-deeper e)
+-- the layers named
+module _ (names : Ground → ℕ → Type 0) where
+  pub put-named : (e : PutRefusal) → PutNames names (Err e) → PutNames (Below names) (Err (put-deeper e))
+  put-named (Far l) n = (l, refl, n)
+  put-named (Double l) n = (l, refl, n)
+  put-named (Full l) n = (l, refl, n)
+
+  pub take-named : (given : List Tag) (r : Result Parcel TakeRefusal) → TakeNames names r → TakeNames (Below names) (take-lifted given (take-told r))
+  take-named given (Ok p) n = tt
+  take-named given (Err (Absent l)) n = (l, refl, n)
+  take-named given (Err (Held by l)) n = (l, refl, n)
 
 -- a take of message n, where w waits below
 module _ (show : Tag → Tag) (given : List Tag) (rule : Tag → Tag → Bool) (w : List Parcel) (agree : Agree show given w) (n : ℕ) where
@@ -31,7 +39,7 @@ module _ (show : Tag → Tag) (given : List Tag) (rule : Tag → Tag → Bool) (
   holder-above p e =
       holder-as-given given show rule (given-tag given p) n w agree ∙ ap (λ t. first-holder rule t (ahead-of n w)) (sym e)
 
-  pub relay-take : (r : Result Parcel TakeRefusal) (w′ : List Parcel) → Take rule w n r w′ → Take (λ x y. rule (show x) (show y)) (as-given given w) n (take-lifted given r) (as-given given w′)
+  pub relay-take : (r : Result Parcel TakeRefusal) (w′ : List Parcel) → Take rule w n r w′ → Take (λ x y. rule (show x) (show y)) (as-given given w) n (take-lifted given (take-told r)) (as-given given w′)
   relay-take (Ok p) w′ h =
       (parcel-as-given given n w ∙ ap (mapped (lifted given)) (h .0), holder-above p (agree-of given show n w p agree (h .0)) ∙ h .1, ap (as-given given) (h .2) ∙ sym (without-as-given given n w))
   relay-take (Err (Absent l)) w′ h = (parcel-as-given given n w ∙ ap (mapped (lifted given)) (h .0), ap (as-given given) (h .1))

@@ -6,7 +6,10 @@ use mathlib.Core.Bool.{Bool, _&&_, not}
 use Prim.Native.Nat.{ℕ, _≤_, _<_, _+_, min}
 use lib.Dec.{ltb, leb}
 use lib.ListN.{length}
+use Rattle.std.specs.declared.result.Result.{Result}
+use Rattle.std.specs.declared.result.Result.the-variants.{Ok, Err}
 use Rattle.delivery.specs.declared.parcel.Parcel.{Parcel}
+use Rattle.delivery.specs.declared.refusal.Accepted.{Accepted}
 use Rattle.delivery.specs.declared.refusal.PutRefusal.{PutRefusal}
 use Rattle.delivery.specs.declared.refusal.PutRefusal.the-variants.{Far, Double, Full}
 use Rattle.delivery.specs.declared.refusal.TakeRefusal.{TakeRefusal}
@@ -26,6 +29,15 @@ put-deeper (Full l) = Full (deeper l)
 abbrev pub take-deeper : TakeRefusal → TakeRefusal
 take-deeper (Absent l) = Absent (deeper l)
 take-deeper (Held by l) = Held by (deeper l)
+
+-- what the delivery below answers, told one layer higher
+abbrev pub put-told : Result Accepted PutRefusal → Result Accepted PutRefusal
+put-told (Ok a) = Ok a
+put-told (Err e) = Err (put-deeper e)
+
+abbrev pub take-told : Result Parcel TakeRefusal → Result Parcel TakeRefusal
+take-told (Ok p) = Ok p
+take-told (Err e) = Err (take-deeper e)
 
 -- what the delivery below may name, seen from the layer above it
 abbrev pub Below : (Ground → ℕ → Type 0) → Ground → ℕ → Type 0

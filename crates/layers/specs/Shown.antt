@@ -5,8 +5,11 @@ use mathlib.Core.Bool.{Bool, false, cond, _&&_}
 use Prim.Native.Nat.{ℕ}
 use lib.Dec.{ltb}
 use lib.ListN.{getD}
+use Rattle.std.specs.declared.result.Result.{Result}
+use Rattle.std.specs.declared.result.Result.the-variants.{Ok, Err}
 use Rattle.delivery.specs.declared.parcel.Tag.{Tag}
 use Rattle.delivery.specs.declared.parcel.Parcel.{Parcel}
+use Rattle.delivery.specs.declared.refusal.TakeRefusal.{TakeRefusal}
 use Rattle.delivery.specs.declared.station.Station.{Station}
 
 -- instance n is in the group
@@ -24,6 +27,12 @@ given-tag given p = getD given (p .message .0) (p .tag)
 abbrev pub lifted : List Tag → Parcel → Parcel
 lifted given p = record { message = p .message; tag = given-tag given p }
 
+-- what a take answers above: the parcel as it was given
+abbrev pub take-lifted : List Tag → Result Parcel TakeRefusal → Result Parcel TakeRefusal
+take-lifted given (Ok p) = Ok (lifted given p)
+take-lifted given (Err e) = Err e
+
+-- the waiting parcels as they were given
 abbrev pub as-given : List Tag → List Parcel → List Parcel
 as-given given [] = []
 as-given given (p ∷ w) = lifted given p ∷ as-given given w

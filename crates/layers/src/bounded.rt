@@ -5,8 +5,8 @@ ghost use lib.ListN.{length};
 ghost use Rattle.layers.specs.Layers.{BoundNames, shut-at};
 ghost use Rattle.layers.specs.Made.{BoundMade};
 use crate::bound::Bound;
-use crate::deeper::put_from_below;
-use crate::deeper::take_from_below;
+use crate::deeper::put_told;
+use crate::deeper::take_told;
 use crate::unbuilt::Unbuilt;
 use chart::numbers::MessageId;
 use delivery::limits::MESSAGE_LIMIT;
@@ -17,14 +17,17 @@ use delivery::refusal::Accepted;
 use delivery::refusal::PutRefusal;
 use delivery::refusal::TakeRefusal;
 
-impl<D> Bound<D> {
+impl<D: Delivery> Bound<D> {
     pub fn new(below: D, number: u16) -> Result<Bound<D>, Unbuilt<D>>
         ensures { λ r. ⌜ BoundMade below number r ⌝ }
     {
         if number < 1 || number > MESSAGE_LIMIT {
             return Err(Unbuilt::BoundNumber { number, below });
         }
-        Ok(Bound { below, limit: number })
+        Ok(Bound {
+            below,
+            limit: number,
+        })
     }
 
     pub fn into_below(self) -> D
@@ -33,14 +36,14 @@ impl<D> Bound<D> {
         let Bound { below, limit: _ } = self;
         below
     }
-}
 
-impl<D: Delivery> Bound<D> {
     // Whether the bound itself refuses a parcel of this message as full: far and double go before full, and are told from below.
     fn shut(&self, message: MessageId) -> bool
         ensures { λ r. ⌜ (D·Delivery .started (now (self .entry) .below) → r ≡ shut-at (now (self .entry) .limit) (message .0) (D·Delivery .waiting (now (self .entry) .below))) ⌝ }
     {
-        message.0 < MESSAGE_LIMIT && !self.below.waits(message) && self.below.count() >= self.limit as usize
+        message.0 < MESSAGE_LIMIT
+            && !self.below.waits(message)
+            && self.below.count() >= self.limit as usize
     }
 }
 
@@ -59,17 +62,11 @@ pub impl<D: Delivery> Delivery for Bound<D> as BoundDelivery {
         if self.shut(parcel.message) {
             return Err(PutRefusal::Full { layer: 0 });
         }
-        match self.below.put(parcel) {
-            Ok(accepted) => Ok(accepted),
-            Err(refusal) => Err(put_from_below(refusal)),
-        }
+        put_told(self.below.put(parcel))
     }
 
     fn take(&mut self, message: MessageId) -> Result<Parcel, TakeRefusal> {
-        match self.below.take(message) {
-            Ok(parcel) => Ok(parcel),
-            Err(refusal) => Err(take_from_below(refusal)),
-        }
+        take_told(self.below.take(message))
     }
 
     fn empty(&mut self) {

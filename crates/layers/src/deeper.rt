@@ -1,24 +1,55 @@
-// Refusals of the delivery below, as the layer above tells them.
+// Answers of the delivery below, as the layer above tells them.
 ghost use mathlib.Core.Path.{_≡_};
-ghost use Rattle.layers.specs.Layers.{put-deeper, take-deeper};
+ghost use Rattle.layers.specs.Layers.{put-deeper, take-deeper, put-told, take-told};
+use delivery::parcel::Parcel;
+use delivery::refusal::Accepted;
 use delivery::refusal::PutRefusal;
 use delivery::refusal::TakeRefusal;
 
-pub(crate) fn put_from_below(refusal: PutRefusal) -> PutRefusal
+pub(crate) fn put_deeper(refusal: PutRefusal) -> PutRefusal
     ensures { λ r. ⌜ r ≡ put-deeper refusal ⌝ }
 {
     match refusal {
-        PutRefusal::Far { layer } => PutRefusal::Far { layer: layer.saturating_add(1) },
-        PutRefusal::Double { layer } => PutRefusal::Double { layer: layer.saturating_add(1) },
-        PutRefusal::Full { layer } => PutRefusal::Full { layer: layer.saturating_add(1) },
+        PutRefusal::Far { layer } => PutRefusal::Far {
+            layer: layer.saturating_add(1),
+        },
+        PutRefusal::Double { layer } => PutRefusal::Double {
+            layer: layer.saturating_add(1),
+        },
+        PutRefusal::Full { layer } => PutRefusal::Full {
+            layer: layer.saturating_add(1),
+        },
     }
 }
 
-pub(crate) fn take_from_below(refusal: TakeRefusal) -> TakeRefusal
+pub(crate) fn put_told(answer: Result<Accepted, PutRefusal>) -> Result<Accepted, PutRefusal>
+    ensures { λ r. ⌜ r ≡ put-told answer ⌝ }
+{
+    match answer {
+        Ok(accepted) => Ok(accepted),
+        Err(refusal) => Err(put_deeper(refusal)),
+    }
+}
+
+fn take_deeper(refusal: TakeRefusal) -> TakeRefusal
     ensures { λ r. ⌜ r ≡ take-deeper refusal ⌝ }
 {
     match refusal {
-        TakeRefusal::Absent { layer } => TakeRefusal::Absent { layer: layer.saturating_add(1) },
-        TakeRefusal::Held { by, layer } => TakeRefusal::Held { by, layer: layer.saturating_add(1) },
+        TakeRefusal::Absent { layer } => TakeRefusal::Absent {
+            layer: layer.saturating_add(1),
+        },
+        TakeRefusal::Held { by, layer } => TakeRefusal::Held {
+            by,
+            layer: layer.saturating_add(1),
+        },
+    }
+}
+
+pub(crate) fn take_told(answer: Result<Parcel, TakeRefusal>) -> Result<Parcel, TakeRefusal>
+    ensures { λ r. ⌜ r ≡ take-told answer ⌝ }
+{
+    match answer {
+        Ok(parcel) => Ok(parcel),
+        Err(refusal) => Err(take_deeper(refusal)),
     }
 }

@@ -4,6 +4,7 @@ ghost use Prim.Native.Nat.{_≤_};
 ghost use lib.ListN.{length};
 ghost use Rattle.delivery.specs.Waiting.{message-limit};
 use crate::group::Group;
+use delivery::limits::MESSAGE_PLACES;
 use delivery::parcel::Tag;
 use delivery::station::Station;
 
@@ -14,7 +15,7 @@ pub struct Relay<D> {
     pub(crate) group: Group,
     pub(crate) station: Station,
     // the tag that each message was last put with, since below only the shown tag waits
-    pub(crate) given: [Tag; 64],
+    pub(crate) given: [Tag; MESSAGE_PLACES],
     ghost low: { 16 ≤ station .number },
     ghost high: { station .number ≤ 31 },
     ghost places: { length given ≡ message-limit },

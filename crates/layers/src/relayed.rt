@@ -2,14 +2,14 @@
 ghost use mathlib.Core.Path.{_≡_};
 ghost use Rattle.layers.specs.Layers.{Below};
 ghost use Rattle.layers.specs.Made.{RelayMade};
-ghost use Rattle.layers.specs.Shown.{shown, given-tag, as-given, Agree};
-use crate::deeper::put_from_below;
-use crate::deeper::take_from_below;
+ghost use Rattle.layers.specs.Shown.{shown, given-tag, take-lifted, as-given, Agree};
+use crate::deeper::put_deeper;
+use crate::deeper::take_told;
 use crate::group::Group;
 use crate::relay::Relay;
 use crate::unbuilt::Unbuilt;
 use chart::numbers::MessageId;
-use delivery::limits::MESSAGE_LIMIT;
+use delivery::limits::MESSAGE_PLACES;
 use delivery::meaning::Delivery;
 use delivery::parcel::Parcel;
 use delivery::parcel::Tag;
@@ -18,7 +18,7 @@ use delivery::refusal::PutRefusal;
 use delivery::refusal::TakeRefusal;
 use delivery::station::Station;
 
-impl<D> Relay<D> {
+impl<D: Delivery> Relay<D> {
     pub fn new(below: D, group: Group, number: u16) -> Result<Relay<D>, Unbuilt<D>>
         ensures { λ r. ⌜ RelayMade below group number r ⌝ }
     {
@@ -28,14 +28,27 @@ impl<D> Relay<D> {
         if number < 16 || number > 31 {
             return Err(Unbuilt::RelayNumber { number, below });
         }
-        let blank = Tag { sender: station, receiver: station };
-        Ok(Relay { below, group, station, given: [blank; 64] })
+        let blank = Tag {
+            sender: station,
+            receiver: station,
+        };
+        Ok(Relay {
+            below,
+            group,
+            station,
+            given: [blank; MESSAGE_PLACES],
+        })
     }
 
     pub fn into_below(self) -> D
         ensures { λ r. ⌜ r ≡ self .below ⌝ }
     {
-        let Relay { below, group: _, station: _, given: _ } = self;
+        let Relay {
+            below,
+            group: _,
+            station: _,
+            given: _,
+        } = self;
         below
     }
 
@@ -43,7 +56,14 @@ impl<D> Relay<D> {
     fn show(&self, tag: Tag) -> Tag
         ensures { λ r. ⌜ r ≡ shown (now (self .entry) .group .0) (now (self .entry) .station) tag ⌝ }
     {
-        if self.group.has(tag.sender) { Tag { sender: self.station, receiver: tag.receiver } } else { tag }
+        if self.group.has(tag.sender) {
+            Tag {
+                sender: self.station,
+                receiver: tag.receiver,
+            }
+        } else {
+            tag
+        }
     }
 
     // The tag that a parcel from below was put with above.
@@ -51,7 +71,23 @@ impl<D> Relay<D> {
         ensures { λ r. ⌜ r ≡ given-tag (now (self .entry) .given) parcel ⌝ }
     {
         let i = parcel.message.0 as usize;
-        if i < 64 { self.given[i] } else { parcel.tag }
+        if i < MESSAGE_PLACES {
+            self.given[i]
+        } else {
+            parcel.tag
+        }
+    }
+
+    fn lift(&self, answer: Result<Parcel, TakeRefusal>) -> Result<Parcel, TakeRefusal>
+        ensures { λ r. ⌜ r ≡ take-lifted (now (self .entry) .given) answer ⌝ }
+    {
+        match answer {
+            Ok(parcel) => Ok(Parcel {
+                message: parcel.message,
+                tag: self.given_to(parcel),
+            }),
+            Err(refusal) => Err(refusal),
+        }
     }
 }
 
@@ -68,23 +104,24 @@ pub impl<D: Delivery> Delivery for Relay<D> as RelayDelivery {
 
     fn put(&mut self, parcel: Parcel) -> Result<Accepted, PutRefusal> {
         let tag = self.show(parcel.tag);
-        match self.below.put(Parcel { message: parcel.message, tag }) {
+        match self.below.put(Parcel {
+            message: parcel.message,
+            tag,
+        }) {
             Ok(accepted) => {
                 let i = parcel.message.0 as usize;
-                if i < 64 {
+                if i < MESSAGE_PLACES {
                     self.given[i] = parcel.tag;
                 }
                 Ok(accepted)
             }
-            Err(refusal) => Err(put_from_below(refusal)),
+            Err(refusal) => Err(put_deeper(refusal)),
         }
     }
 
     fn take(&mut self, message: MessageId) -> Result<Parcel, TakeRefusal> {
-        match self.below.take(message) {
-            Ok(parcel) => Ok(Parcel { message: parcel.message, tag: self.given_to(parcel) }),
-            Err(refusal) => Err(take_from_below(refusal)),
-        }
+        let answer = take_told(self.below.take(message));
+        self.lift(answer)
     }
 
     fn empty(&mut self) {

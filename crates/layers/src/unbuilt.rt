@@ -1,6 +1,6 @@
 // Why a layer cannot be made.
 ghost use mathlib.Core.Path.{_≡_};
-ghost use Rattle.layers.specs.Refusals.{refusal-number, given-back};
+ghost use Rattle.layers.specs.Refusals.{refusal-number};
 
 // The number asked for, and the delivery that was to stand below.
 #[derive(Drop)]
@@ -18,16 +18,6 @@ impl<D> Unbuilt<D> {
         match self {
             Unbuilt::BoundNumber { .. } => 11,
             Unbuilt::RelayNumber { .. } => 12,
-        }
-    }
-
-    // Gives the delivery back.
-    pub fn into_below(self) -> D
-        ensures { λ r. ⌜ r ≡ given-back self ⌝ }
-    {
-        match self {
-            Unbuilt::BoundNumber { number: _, below } => below,
-            Unbuilt::RelayNumber { number: _, below } => below,
         }
     }
 }

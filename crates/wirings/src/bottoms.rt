@@ -27,25 +27,25 @@ pub type Mailbox = Queue<SameReceiver>;
 // Rendezvous: as the bag, but the next parcel is accepted only when the last has been taken.
 pub type Meeting = Queue<NoHold>;
 
-pub fn bag(heap: Global) -> Result<Bag, AllocError>
+pub fn new_bag(heap: Global) -> Result<Bag, AllocError>
     ensures { λ r. ⌜ made r (λ q. (q .capacity ≡ message-limit) × (vec-items (q .parcels) ≡ [])) ⌝ }
 {
     Queue::new(heap, NoHold, MESSAGE_LIMIT)
 }
 
-pub fn paired_line(heap: Global) -> Result<PairedLine, AllocError>
+pub fn new_paired_line(heap: Global) -> Result<PairedLine, AllocError>
     ensures { λ r. ⌜ made r (λ q. (q .capacity ≡ message-limit) × (vec-items (q .parcels) ≡ [])) ⌝ }
 {
     Queue::new(heap, SamePair, MESSAGE_LIMIT)
 }
 
-pub fn mailbox(heap: Global) -> Result<Mailbox, AllocError>
+pub fn new_mailbox(heap: Global) -> Result<Mailbox, AllocError>
     ensures { λ r. ⌜ made r (λ q. (q .capacity ≡ message-limit) × (vec-items (q .parcels) ≡ [])) ⌝ }
 {
     Queue::new(heap, SameReceiver, MESSAGE_LIMIT)
 }
 
-pub fn meeting(heap: Global) -> Result<Meeting, AllocError>
+pub fn new_meeting(heap: Global) -> Result<Meeting, AllocError>
     ensures { λ r. ⌜ made r (λ q. (q .capacity ≡ 1) × (vec-items (q .parcels) ≡ [])) ⌝ }
 {
     Queue::new(heap, NoHold, 1)

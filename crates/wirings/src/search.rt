@@ -37,7 +37,12 @@ pub(crate) fn place_of(parcels: &[Parcel], message: MessageId) -> Option<usize>
 }
 
 // The first message ahead of the given one whose tag holds the given tag.
-pub(crate) fn holder_ahead<R: HoldRule>(rule: &R, parcels: &[Parcel], tag: Tag, message: MessageId) -> Option<MessageId>
+pub(crate) fn holder_ahead<R: HoldRule>(
+    rule: &R,
+    parcels: &[Parcel],
+    tag: Tag,
+    message: MessageId,
+) -> Option<MessageId>
     ensures { λ r. ⌜ r ≡ first-holder (R·HoldRule .held (now (rule .entry))) tag (ahead-of (message .0) (now (parcels .entry))) ⌝ }
 {
     for parcel in parcels {

@@ -28,7 +28,11 @@ impl<R: HoldRule + Drop> Queue<R> {
         ensures { λ r. ⌜ made r (λ q. (q .rule ≡ rule) × (q .capacity ≡ capacity) × (vec-items (q .parcels) ≡ [])) ⌝ }
     {
         let parcels = Vec::with_capacity(heap, capacity as usize)?;
-        Ok(Queue { rule, capacity, parcels })
+        Ok(Queue {
+            rule,
+            capacity,
+            parcels,
+        })
     }
 }
 

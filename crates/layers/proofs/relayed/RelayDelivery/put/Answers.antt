@@ -5,12 +5,11 @@ use Rattle.delivery.specs.declared.parcel.Tag.{Tag}
 use Rattle.delivery.specs.declared.parcel.Parcel.{Parcel}
 use Rattle.delivery.specs.Answers.{Put}
 use Rattle.layers.specs.Shown.{shown}
-use Rattle.layers.proofs.Passed.{put-named}
-use Rattle.layers.proofs.Relays.{relay-put, relay-put-agree, relay-refuse, relay-refuse-agree}
+use Rattle.layers.proofs.Relays.{put-named, relay-put, relay-put-agree, relay-refuse, relay-refuse-agree}
 use Rattle.layers.proofs.relayed.RelayDelivery.put.Needs as need
 
-pub returns-then-i-lt64 : need.returns-then-i-lt64
-returns-then-i-lt64 g c =
+pub returns-then-i-lt-MESSAGE-PLACES : need.returns-then-i-lt-MESSAGE-PLACES
+returns-then-i-lt-MESSAGE-PLACES g c =
     let m = g .D·Delivery in
     let this = c .args .self .now in
     let show : Tag → Tag = shown (this .group .0) (this .station) in
@@ -40,6 +39,6 @@ returns-in-Err g c =
       rule = ap (λ R a b. R (show a) (show b)) (c .put .ensures .rule);
       room = c .put .ensures .room;
       starts = λ s. (c .put .ensures .starts (s .0), relay-refuse-agree show (this .given) (m .room (this .below)) w (s .1) p e after (below (s .0)));
-      puts = λ s. rw (c .put-from-below .ensures) (relay-refuse show (this .given) (m .room (this .below)) w (s .1) p e after (below (s .0)));
-      layer = λ s. rw (c .put-from-below .ensures) (put-named (m .names (this .below)) e (c .in-Err .ensures tt .layer (s .0)));
+      puts = λ s. rw (c .put-deeper .ensures) (relay-refuse show (this .given) (m .room (this .below)) w (s .1) p e after (below (s .0)));
+      layer = λ s. rw (c .put-deeper .ensures) (put-named (m .names (this .below)) e (c .in-Err .ensures tt .layer (s .0)));
     }
