@@ -1,23 +1,30 @@
 // Answers of the delivery below, as the layer above tells them.
 ghost use mathlib.Core.Path.{_≡_};
-ghost use Rattle.layers.specs.Layers.{put-deeper, take-deeper, put-told, take-told};
+ghost use Rattle.layers.specs.Layers.{deeper, put-deeper, take-deeper, put-told, take-told};
 use delivery::parcel::Parcel;
 use delivery::refusal::Accepted;
 use delivery::refusal::PutRefusal;
 use delivery::refusal::TakeRefusal;
+
+// A layer of the pile below, counted from one layer higher; the count stops at 255.
+fn deeper(layer: u8) -> u8
+    ensures { λ r. ⌜ r ≡ deeper layer ⌝ }
+{
+    layer.saturating_add(1)
+}
 
 pub(crate) fn put_deeper(refusal: PutRefusal) -> PutRefusal
     ensures { λ r. ⌜ r ≡ put-deeper refusal ⌝ }
 {
     match refusal {
         PutRefusal::Far { layer } => PutRefusal::Far {
-            layer: layer.saturating_add(1),
+            layer: deeper(layer),
         },
         PutRefusal::Double { layer } => PutRefusal::Double {
-            layer: layer.saturating_add(1),
+            layer: deeper(layer),
         },
         PutRefusal::Full { layer } => PutRefusal::Full {
-            layer: layer.saturating_add(1),
+            layer: deeper(layer),
         },
     }
 }
@@ -36,11 +43,11 @@ fn take_deeper(refusal: TakeRefusal) -> TakeRefusal
 {
     match refusal {
         TakeRefusal::Absent { layer } => TakeRefusal::Absent {
-            layer: layer.saturating_add(1),
+            layer: deeper(layer),
         },
         TakeRefusal::Held { by, layer } => TakeRefusal::Held {
             by,
-            layer: layer.saturating_add(1),
+            layer: deeper(layer),
         },
     }
 }

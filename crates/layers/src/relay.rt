@@ -8,6 +8,11 @@ use delivery::limits::MESSAGE_PLACES;
 use delivery::parcel::Tag;
 use delivery::station::Station;
 
+// The numbers that a relay may have.
+pub const LEAST_RELAY: u16 = 16;
+
+pub const GREATEST_RELAY: u16 = 31;
+
 // A layer through which a group of instances sends as one: below, the relay stands as the sender of all their parcels.
 #[derive(Drop)]
 pub struct Relay<D> {

@@ -6,6 +6,8 @@ ghost use Rattle.layers.specs.Shown.{shown, given-tag, take-lifted, as-given, 
 use crate::deeper::put_deeper;
 use crate::deeper::take_told;
 use crate::group::Group;
+use crate::relay::GREATEST_RELAY;
+use crate::relay::LEAST_RELAY;
 use crate::relay::Relay;
 use crate::unbuilt::Unbuilt;
 use chart::numbers::MessageId;
@@ -22,22 +24,21 @@ impl<D: Delivery> Relay<D> {
     pub fn new(below: D, group: Group, number: u16) -> Result<Relay<D>, Unbuilt<D>>
         ensures { λ r. ⌜ RelayMade below group number r ⌝ }
     {
-        let Some(station) = Station::new(number) else {
-            return Err(Unbuilt::RelayNumber { number, below });
-        };
-        if number < 16 || number > 31 {
-            return Err(Unbuilt::RelayNumber { number, below });
+        match Station::new(number) {
+            Some(station) if number >= LEAST_RELAY && number <= GREATEST_RELAY => {
+                let blank = Tag {
+                    sender: station,
+                    receiver: station,
+                };
+                Ok(Relay {
+                    below,
+                    group,
+                    station,
+                    given: [blank; MESSAGE_PLACES],
+                })
+            }
+            _ => Err(Unbuilt::RelayNumber { number, below }),
         }
-        let blank = Tag {
-            sender: station,
-            receiver: station,
-        };
-        Ok(Relay {
-            below,
-            group,
-            station,
-            given: [blank; MESSAGE_PLACES],
-        })
     }
 
     pub fn into_below(self) -> D
