@@ -4,6 +4,7 @@ use mathlib.Core.List.{List, [], _∷_, _++_}
 use mathlib.Core.Bool.{Bool, true, false}
 use Prim.Native.Nat.{ℕ, _≤_, _<_}
 use lib.ListN.{length}
+use Rattle.std.specs.declared.option.Option.{Option}
 use Rattle.std.specs.declared.option.Option.the-variants.{Some, None}
 use Rattle.std.specs.declared.result.Result.{Result}
 use Rattle.std.specs.declared.result.Result.the-variants.{Ok, Err}
@@ -49,14 +50,19 @@ abbrev pub Take : (Tag → Tag → Bool) → List Parcel → ℕ → Result Parc
 Take rule w n (Ok p) w′ = (parcel-of n w ≡ Some p) × (first-holder rule (p .tag) (ahead-of n w) ≡ None) × (w′ ≡ without n w)
 Take rule w n (Err e) w′ = WhyTake rule w n e × (w′ ≡ w)
 
--- each refusal's ground, and the layer that it names
-abbrev pub PutNames : (Ground → ℕ → Type 0) → Result Accepted PutRefusal → Type 0
-PutNames names (Ok a) = Unit {0}
-PutNames names (Err (Far l)) = names far l
-PutNames names (Err (Double l)) = names double l
-PutNames names (Err (Full l)) = names full l
+-- a refusal names the layer l, where a layer is laid down
+abbrev pub Named : Option ℕ → ℕ → Type 0
+Named None l = Unit {0}
+Named (Some k) l = l ≡ k
 
-abbrev pub TakeNames : (Ground → ℕ → Type 0) → Result Parcel TakeRefusal → Type 0
-TakeNames names (Ok p) = Unit {0}
-TakeNames names (Err (Absent l)) = names absent l
-TakeNames names (Err (Held by l)) = names held l
+-- each refusal's ground, and the layer that it names
+abbrev pub PutNames : (Ground → Option ℕ) → Result Accepted PutRefusal → Type 0
+PutNames layer (Ok a) = Unit {0}
+PutNames layer (Err (Far l)) = Named (layer far) l
+PutNames layer (Err (Double l)) = Named (layer double) l
+PutNames layer (Err (Full l)) = Named (layer full) l
+
+abbrev pub TakeNames : (Ground → Option ℕ) → Result Parcel TakeRefusal → Type 0
+TakeNames layer (Ok p) = Unit {0}
+TakeNames layer (Err (Absent l)) = Named (layer absent) l
+TakeNames layer (Err (Held by l)) = Named (layer held) l

@@ -4,6 +4,8 @@ ghost use mathlib.Core.Bool.{Bool, true};
 ghost use mathlib.Core.List.{List, []};
 ghost use Prim.Native.Nat.{ℕ, _≤_};
 ghost use lib.ListN.{length};
+ghost use Rattle.std.specs.declared.option.Option.{Option};
+ghost use Rattle.std.specs.declared.option.Option.the-variants.{None};
 ghost use Rattle.delivery.specs.Waiting.{message-limit, waits-in, distinct};
 ghost use Rattle.delivery.specs.Answers.{Ground, Put, Take, PutNames, TakeNames};
 ghost use Rattle.delivery.specs.declared.parcel.Tag.{Tag};
@@ -28,8 +30,8 @@ pub trait Delivery {
     // true from the first `empty` on; before it, only `holds` and `capacity` promise anything
     ghost started: { Self → Type 0 };
 
-    // the layers that a refusal on this ground may name; any, unless an implementation says more
-    ghost names: { Self → Ground → ℕ → Type 0 } = { λ _ _ _. Unit {0} };
+    // the layer that a refusal on this ground names while so many parcels wait; None where it may name any
+    ghost layer: { Self → ℕ → Ground → Option ℕ } = { λ _ _ _. None };
 
     law transitive: { (s : Self) (a b c : Tag) → rule s a b ≡ true → rule s b c ≡ true → rule s a c ≡ true };
 
@@ -44,20 +46,23 @@ pub trait Delivery {
     fn put(&mut self, parcel: Parcel) -> Result<Accepted, PutRefusal>
         ensures rule { λ _. ⌜ rule (now (self .exit)) ≡ rule (now (self .entry)) ⌝ }
         ensures room { λ _. ⌜ room (now (self .exit)) ≡ room (now (self .entry)) ⌝ }
+        ensures layer { λ _. ⌜ layer (now (self .exit)) ≡ layer (now (self .entry)) ⌝ }
         ensures starts { λ _. ⌜ (started (now (self .entry)) → started (now (self .exit))) ⌝ }
         ensures puts { λ r. ⌜ (started (now (self .entry)) → Put (room (now (self .entry))) (waiting (now (self .entry))) parcel r (waiting (now (self .exit)))) ⌝ }
-        ensures layer { λ r. ⌜ (started (now (self .entry)) → PutNames (names (now (self .entry))) r) ⌝ };
+        ensures names { λ r. ⌜ (started (now (self .entry)) → PutNames (layer (now (self .entry)) (length (waiting (now (self .entry))))) r) ⌝ };
 
     fn take(&mut self, message: MessageId) -> Result<Parcel, TakeRefusal>
         ensures rule { λ _. ⌜ rule (now (self .exit)) ≡ rule (now (self .entry)) ⌝ }
         ensures room { λ _. ⌜ room (now (self .exit)) ≡ room (now (self .entry)) ⌝ }
+        ensures layer { λ _. ⌜ layer (now (self .exit)) ≡ layer (now (self .entry)) ⌝ }
         ensures starts { λ _. ⌜ (started (now (self .entry)) → started (now (self .exit))) ⌝ }
         ensures takes { λ r. ⌜ (started (now (self .entry)) → Take (rule (now (self .entry))) (waiting (now (self .entry))) (message .0) r (waiting (now (self .exit)))) ⌝ }
-        ensures layer { λ r. ⌜ (started (now (self .entry)) → TakeNames (names (now (self .entry))) r) ⌝ };
+        ensures names { λ r. ⌜ (started (now (self .entry)) → TakeNames (layer (now (self .entry)) (length (waiting (now (self .entry))))) r) ⌝ };
 
     fn empty(&mut self)
         ensures rule { λ _. ⌜ rule (now (self .exit)) ≡ rule (now (self .entry)) ⌝ }
         ensures room { λ _. ⌜ room (now (self .exit)) ≡ room (now (self .entry)) ⌝ }
+        ensures layer { λ _. ⌜ layer (now (self .exit)) ≡ layer (now (self .entry)) ⌝ }
         ensures starts { λ _. ⌜ started (now (self .exit)) ⌝ }
         ensures empties { λ _. ⌜ waiting (now (self .exit)) ≡ [] ⌝ };
 

@@ -1,13 +1,15 @@
 -- What a bound answers, from what the delivery below answers.
-use mathlib.Core.Path.{_≡_, refl, ap}
+use mathlib.Core.Path.{_≡_, ap}
 use mathlib.Core.List.{List, [], _∷_, _++_}
 use mathlib.Core.Bool.{Bool, true, false}
-use mathlib.Core.Logic.{inr}
 use Prim.Native.Nat.{ℕ, _≤_, _<_, min}
 use native.Mathlib.Omega.{arith}
 use lib.ListN.{length}
 use Rattle.std.proofs.shelf.Lists.{length-push}
-use Rattle.std.proofs.shelf.Tests.{lt-ltb, leb-false}
+use Rattle.std.proofs.shelf.Tests.{lt-ltb, lt-leb, leb-false}
+use Rattle.std.specs.Options.{mapped}
+use Rattle.std.specs.declared.option.Option.{Option}
+use Rattle.std.specs.declared.option.Option.the-variants.{Some, None}
 use Rattle.std.specs.declared.result.Result.{Result}
 use Rattle.std.specs.declared.result.Result.the-variants.{Ok, Err}
 use Rattle.delivery.specs.declared.parcel.Parcel.{Parcel}
@@ -17,10 +19,14 @@ use Rattle.delivery.specs.declared.refusal.PutRefusal.{PutRefusal}
 use Rattle.delivery.specs.declared.refusal.PutRefusal.the-variants.{Far, Double, Full}
 use Rattle.delivery.specs.declared.refusal.TakeRefusal.{TakeRefusal}
 use Rattle.delivery.specs.declared.refusal.TakeRefusal.the-variants.{Absent, Held}
-use Rattle.delivery.specs.Answers.{Ground, Welcome, Put, Take, PutNames, TakeNames}
+use Rattle.delivery.specs.Answers.{Ground, far, double, full, absent, held, Welcome, Put, Take, Named, PutNames, TakeNames}
 use Rattle.delivery.specs.Waiting.{message-limit}
 use Rattle.delivery.proofs.Distinct.{length-without}
-use Rattle.layers.specs.Layers.{put-told, take-told, BoundNames, shut-at}
+use Rattle.layers.specs.Layers.{deeper, put-told, take-told, bound-layer, shut-at}
+
+pub named-deeper : (o : Option ℕ) (l : ℕ) → Named o l → Named (mapped deeper o) (deeper l)
+named-deeper None l n = tt
+named-deeper (Some k) l n = ap deeper n
 
 -- a put that the bound lets through
 module _ (limit room : ℕ) (w : List Parcel) (p : Parcel) (unshut : shut-at limit (p .message .0) w ≡ false) where
@@ -39,11 +45,11 @@ module _ (limit room : ℕ) (w : List Parcel) (p : Parcel) (unshut : shut-at lim
   bound-length (Ok a) w′ le h = let lt = spare (h .0) in omega (arith, ap length (h .2), length-push w p)
   bound-length (Err e) w′ le h = omega (arith, ap length (h .1))
 
-  pub bound-named : (names : Ground → ℕ → Type 0) (r : Result Accepted PutRefusal) (w′ : List Parcel) → Put room w p r w′ → PutNames names r → PutNames (BoundNames limit w names) (put-told r)
-  bound-named names (Ok a) w′ h n = tt
-  bound-named names (Err (Far l)) w′ h n = (l, refl, n)
-  bound-named names (Err (Double l)) w′ h n = (l, refl, n)
-  bound-named names (Err (Full l)) w′ h n = inr (spare (h .0 .0), (l, refl, n))
+  pub bound-named : (below : Ground → Option ℕ) (r : Result Accepted PutRefusal) (w′ : List Parcel) → Put room w p r w′ → PutNames below r → PutNames (bound-layer limit (length w) below) (put-told r)
+  bound-named below (Ok a) w′ h n = tt
+  bound-named below (Err (Far l)) w′ h n = named-deeper (below far) l n
+  bound-named below (Err (Double l)) w′ h n = named-deeper (below double) l n
+  bound-named below (Err (Full l)) w′ h n = rw (lt-leb limit (length w) (spare (h .0 .0))) (named-deeper (below full) l n)
 
 module _ (rule : Tag → Tag → Bool) (w : List Parcel) (n : ℕ) where
   pub taken-within : (limit : ℕ) (r : Result Parcel TakeRefusal) (w′ : List Parcel) → length w ≤ limit → Take rule w n r w′ → length w′ ≤ limit
@@ -55,7 +61,7 @@ module _ (rule : Tag → Tag → Bool) (w : List Parcel) (n : ℕ) where
   bound-take (Err (Absent l)) w′ h = h
   bound-take (Err (Held by l)) w′ h = h
 
-pub bound-take-named : (limit : ℕ) (w : List Parcel) (names : Ground → ℕ → Type 0) (r : Result Parcel TakeRefusal) → TakeNames names r → TakeNames (BoundNames limit w names) (take-told r)
-bound-take-named limit w names (Ok p) n = tt
-bound-take-named limit w names (Err (Absent l)) n = (l, refl, n)
-bound-take-named limit w names (Err (Held by l)) n = (l, refl, n)
+pub bound-take-named : (limit count : ℕ) (below : Ground → Option ℕ) (r : Result Parcel TakeRefusal) → TakeNames below r → TakeNames (bound-layer limit count below) (take-told r)
+bound-take-named limit count below (Ok p) n = tt
+bound-take-named limit count below (Err (Absent l)) n = named-deeper (below absent) l n
+bound-take-named limit count below (Err (Held by l)) n = named-deeper (below held) l n

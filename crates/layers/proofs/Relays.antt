@@ -1,11 +1,12 @@
 -- What a relay answers, from what the delivery below answers.
-use mathlib.Core.Path.{_≡_, refl, sym, ap, _∙_}
+use mathlib.Core.Path.{_≡_, sym, ap, _∙_}
 use mathlib.Core.List.{List, []}
 use mathlib.Core.Bool.{Bool}
 use Prim.Native.Nat.{ℕ}
 use lib.ListN.{length, set}
 use Rattle.std.specs.Options.{mapped}
 use Rattle.std.proofs.shelf.Lists.{getD-set-same}
+use Rattle.std.specs.declared.option.Option.{Option}
 use Rattle.std.specs.declared.result.Result.{Result}
 use Rattle.std.specs.declared.result.Result.the-variants.{Ok, Err}
 use Rattle.delivery.specs.declared.parcel.Parcel.{Parcel}
@@ -15,23 +16,27 @@ use Rattle.delivery.specs.declared.refusal.PutRefusal.{PutRefusal}
 use Rattle.delivery.specs.declared.refusal.PutRefusal.the-variants.{Far, Double, Full}
 use Rattle.delivery.specs.declared.refusal.TakeRefusal.{TakeRefusal}
 use Rattle.delivery.specs.declared.refusal.TakeRefusal.the-variants.{Absent, Held}
-use Rattle.delivery.specs.Answers.{Ground, Put, Take, PutNames, TakeNames}
+use Rattle.delivery.specs.Answers.{Ground, far, double, full, absent, held, Put, Take, Named, PutNames, TakeNames}
 use Rattle.delivery.specs.Waiting.{message-limit, ahead-of, first-holder}
-use Rattle.layers.specs.Layers.{put-deeper, take-told, Below}
+use Rattle.layers.specs.Layers.{deeper, put-deeper, take-told, layer-below}
 use Rattle.layers.specs.Shown.{given-tag, lifted, take-lifted, as-given, Agree}
+use Rattle.layers.proofs.Bounds.{named-deeper}
 use Rattle.layers.proofs.Tags.{length-as-given, waits-as-given, parcel-as-given, without-as-given, as-given-push, agree-without, agree-push, agree-of, holder-as-given, as-given-noted, agree-noted}
 
--- the layers named
-module _ (names : Ground → ℕ → Type 0) where
-  pub put-named : (e : PutRefusal) → PutNames names (Err e) → PutNames (Below names) (Err (put-deeper e))
-  put-named (Far l) n = (l, refl, n)
-  put-named (Double l) n = (l, refl, n)
-  put-named (Full l) n = (l, refl, n)
+-- the layers named, where w waits below
+module _ (below : ℕ → Ground → Option ℕ) (given : List Tag) (w : List Parcel) where
+  passed : (ground : Ground) (l : ℕ) → Named (below (length w) ground) l → Named (layer-below (below (length (as-given given w))) ground) (deeper l)
+  passed ground l n = rw (length-as-given given w) (named-deeper (below (length w) ground) l n)
 
-  pub take-named : (given : List Tag) (r : Result Parcel TakeRefusal) → TakeNames names r → TakeNames (Below names) (take-lifted given (take-told r))
-  take-named given (Ok p) n = tt
-  take-named given (Err (Absent l)) n = (l, refl, n)
-  take-named given (Err (Held by l)) n = (l, refl, n)
+  pub put-named : (e : PutRefusal) → PutNames (below (length w)) (Err e) → PutNames (layer-below (below (length (as-given given w)))) (Err (put-deeper e))
+  put-named (Far l) n = passed far l n
+  put-named (Double l) n = passed double l n
+  put-named (Full l) n = passed full l n
+
+  pub take-named : (r : Result Parcel TakeRefusal) → TakeNames (below (length w)) r → TakeNames (layer-below (below (length (as-given given w)))) (take-lifted given (take-told r))
+  take-named (Ok p) n = tt
+  take-named (Err (Absent l)) n = passed absent l n
+  take-named (Err (Held by l)) n = passed held l n
 
 -- a take of message n, where w waits below
 module _ (show : Tag → Tag) (given : List Tag) (rule : Tag → Tag → Bool) (w : List Parcel) (agree : Agree show given w) (n : ℕ) where

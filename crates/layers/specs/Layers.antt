@@ -1,11 +1,12 @@
 -- How refusals come up through a layer, and which layers they name.
-use mathlib.Core.Path.{_≡_}
-use mathlib.Core.Logic.{_⊎_}
 use mathlib.Core.List.{List}
-use mathlib.Core.Bool.{Bool, _&&_, not}
-use Prim.Native.Nat.{ℕ, _≤_, _<_, _+_, min}
+use mathlib.Core.Bool.{Bool, cond, _&&_, not}
+use Prim.Native.Nat.{ℕ, _+_, min}
 use lib.Dec.{ltb, leb}
 use lib.ListN.{length}
+use Rattle.std.specs.Options.{mapped}
+use Rattle.std.specs.declared.option.Option.{Option}
+use Rattle.std.specs.declared.option.Option.the-variants.{Some}
 use Rattle.std.specs.declared.result.Result.{Result}
 use Rattle.std.specs.declared.result.Result.the-variants.{Ok, Err}
 use Rattle.delivery.specs.declared.parcel.Parcel.{Parcel}
@@ -39,17 +40,17 @@ abbrev pub take-told : Result Parcel TakeRefusal → Result Parcel TakeRefusal
 take-told (Ok p) = Ok p
 take-told (Err e) = Err (take-deeper e)
 
--- what the delivery below may name, seen from the layer above it
-abbrev pub Below : (Ground → ℕ → Type 0) → Ground → ℕ → Type 0
-Below names ground l = (k : ℕ) × (l ≡ deeper k) × names ground k
+-- the layer that the delivery below names, counted from one layer higher
+abbrev pub layer-below : (Ground → Option ℕ) → Ground → Option ℕ
+layer-below below ground = mapped deeper (below ground)
 
--- a bound names itself if it is full by its own number, and passes on every other refusal
-abbrev pub BoundNames : ℕ → List Parcel → (Ground → ℕ → Type 0) → Ground → ℕ → Type 0
-BoundNames limit w names far l = Below names far l
-BoundNames limit w names double l = Below names double l
-BoundNames limit w names full l = ((limit ≤ length w) × (l ≡ 0)) ⊎ ((length w < limit) × Below names full l)
-BoundNames limit w names absent l = Below names absent l
-BoundNames limit w names held l = Below names held l
+-- a bound that is full by its own number names itself; every other refusal comes from below
+abbrev pub bound-layer : ℕ → ℕ → (Ground → Option ℕ) → Ground → Option ℕ
+bound-layer limit count below far = layer-below below far
+bound-layer limit count below double = layer-below below double
+bound-layer limit count below full = cond (leb limit count) (Some 0) (layer-below below full)
+bound-layer limit count below absent = layer-below below absent
+bound-layer limit count below held = layer-below below held
 
 -- whether a bound refuses message n as full by its own number
 abbrev pub shut-at : ℕ → ℕ → List Parcel → Bool

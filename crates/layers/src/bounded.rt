@@ -2,7 +2,7 @@
 ghost use mathlib.Core.Path.{_≡_};
 ghost use Prim.Native.Nat.{_≤_, min};
 ghost use lib.ListN.{length};
-ghost use Rattle.layers.specs.Layers.{BoundNames, shut-at};
+ghost use Rattle.layers.specs.Layers.{bound-layer, shut-at};
 ghost use Rattle.layers.specs.Made.{BoundMade};
 use crate::bound::Bound;
 use crate::deeper::put_told;
@@ -56,7 +56,7 @@ pub impl<D: Delivery> Delivery for Bound<D> as BoundDelivery {
 
     ghost started = { λ s. D·Delivery .started (s .below) × length (D·Delivery .waiting (s .below)) ≤ s .limit };
 
-    ghost names = { λ s. BoundNames (s .limit) (D·Delivery .waiting (s .below)) (D·Delivery .names (s .below)) };
+    ghost layer = { λ s count. bound-layer (s .limit) count (D·Delivery .layer (s .below) count) };
 
     fn put(&mut self, parcel: Parcel) -> Result<Accepted, PutRefusal> {
         if self.shut(parcel.message) {

@@ -1,6 +1,6 @@
 // A relay over any delivery.
 ghost use mathlib.Core.Path.{_≡_};
-ghost use Rattle.layers.specs.Layers.{Below};
+ghost use Rattle.layers.specs.Layers.{layer-below};
 ghost use Rattle.layers.specs.Made.{RelayMade};
 ghost use Rattle.layers.specs.Shown.{shown, given-tag, take-lifted, as-given, Agree};
 use crate::deeper::put_deeper;
@@ -101,7 +101,7 @@ pub impl<D: Delivery> Delivery for Relay<D> as RelayDelivery {
 
     ghost started = { λ s. D·Delivery .started (s .below) × Agree (shown (s .group .0) (s .station)) (s .given) (D·Delivery .waiting (s .below)) };
 
-    ghost names = { λ s. Below (D·Delivery .names (s .below)) };
+    ghost layer = { λ s count. layer-below (D·Delivery .layer (s .below) count) };
 
     fn put(&mut self, parcel: Parcel) -> Result<Accepted, PutRefusal> {
         let tag = self.show(parcel.tag);

@@ -4,6 +4,7 @@ ghost use mathlib.Core.List.{[]};
 ghost use Prim.Native.Nat.{_≤_};
 ghost use Rattle.std.specs.Of.Vec.{vec-items};
 ghost use Rattle.std.specs.Vec.{made};
+ghost use Rattle.std.specs.declared.option.Option.the-variants.{Some};
 ghost use Rattle.delivery.specs.Waiting.{message-limit};
 use crate::hold_rule::HoldRule;
 use crate::queue::Queue;
@@ -45,7 +46,7 @@ pub impl<R: HoldRule> Delivery for Queue<R> as QueueDelivery {
 
     ghost started = { λ _. Unit {0} };
 
-    ghost names = { λ _ _ layer. layer ≡ 0 };
+    ghost layer = { λ _ _ _. Some 0 };
 
     fn put(&mut self, parcel: Parcel) -> Result<Accepted, PutRefusal> {
         if parcel.message.0 >= MESSAGE_LIMIT {

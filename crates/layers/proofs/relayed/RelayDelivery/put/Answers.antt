@@ -4,6 +4,7 @@ use Rattle.std.specs.declared.result.Result.the-variants.{Ok, Err}
 use Rattle.delivery.specs.declared.parcel.Tag.{Tag}
 use Rattle.delivery.specs.declared.parcel.Parcel.{Parcel}
 use Rattle.delivery.specs.Answers.{Put}
+use Rattle.layers.specs.Layers.{layer-below}
 use Rattle.layers.specs.Shown.{shown}
 use Rattle.layers.proofs.Relays.{put-named, relay-put, relay-put-agree, relay-refuse, relay-refuse-agree}
 use Rattle.layers.proofs.relayed.RelayDelivery.put.Needs as need
@@ -20,9 +21,10 @@ returns-then-i-lt-MESSAGE-PLACES g c =
     record {
       rule = ap (λ R a b. R (show a) (show b)) (c .put .ensures .rule);
       room = c .put .ensures .room;
+      layer = ap (λ L n. layer-below (L n)) (c .put .ensures .layer);
       starts = λ s. (c .put .ensures .starts (s .0), relay-put-agree show (this .given) (m .room (this .below)) w (s .1) p (this .places) (c .in-Ok .accepted) after (below (s .0)));
       puts = λ s. relay-put show (this .given) (m .room (this .below)) w (s .1) p (this .places) (c .in-Ok .accepted) after (below (s .0));
-      layer = λ _. tt;
+      names = λ _. tt;
     }
 
 pub returns-in-Err : need.returns-in-Err
@@ -38,7 +40,8 @@ returns-in-Err g c =
     record {
       rule = ap (λ R a b. R (show a) (show b)) (c .put .ensures .rule);
       room = c .put .ensures .room;
+      layer = ap (λ L n. layer-below (L n)) (c .put .ensures .layer);
       starts = λ s. (c .put .ensures .starts (s .0), relay-refuse-agree show (this .given) (m .room (this .below)) w (s .1) p e after (below (s .0)));
       puts = λ s. rw (c .put-deeper .ensures) (relay-refuse show (this .given) (m .room (this .below)) w (s .1) p e after (below (s .0)));
-      layer = λ s. rw (c .put-deeper .ensures) (put-named (m .names (this .below)) e (c .in-Err .ensures tt .layer (s .0)));
+      names = λ s. rw (c .put-deeper .ensures) (put-named (m .layer (this .below)) (this .given) w e (c .in-Err .ensures tt .names (s .0)));
     }

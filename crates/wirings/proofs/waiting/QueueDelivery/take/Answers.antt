@@ -10,7 +10,7 @@ returns-in-Some-holder-ahead g c =
     let parcel = c .index-parcel .result .now in
     let waits = rw (c .deref .ensures .value) at (c .in-Some .ensures tt .1 parcel) ∙ ap Some (sym (c .index-parcel .ensures)) in
     let held = sym (rw (c .deref-2 .ensures .value) at (c .in-Some-holder-ahead .ensures tt)) in
-    record { rule = refl; room = refl; starts = λ s. s; takes = λ _. ((parcel, waits, held), refl); layer = λ _. refl }
+    record { rule = refl; room = refl; layer = refl; starts = λ s. s; takes = λ _. ((parcel, waits, held), refl); names = λ _. refl }
 
 pub ghost-self-2 : need.ghost-self-2
 ghost-self-2 g c =
