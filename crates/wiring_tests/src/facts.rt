@@ -44,7 +44,11 @@ fn mailbox_holds(mailbox: &Mailbox, first: Tag, second: Tag) -> bool
 }
 
 // Over any delivery of capacity 1 the second of two messages comes back as full, and names the layer laid down for it.
-fn second_put<D: Delivery>(delivery: &mut D, first: Parcel, second: Parcel) -> Result<Accepted, PutRefusal>
+fn second_put<D: Delivery>(
+    delivery: &mut D,
+    first: Parcel,
+    second: Parcel,
+) -> Result<Accepted, PutRefusal>
     ensures { λ r. ⌜ (Apart first second → D·Delivery .room (now (delivery .entry)) ≡ 1 → SecondIsFull (D·Delivery .layer (now (delivery .entry)) 1 full) r) ⌝ }
 {
     delivery.empty();
@@ -53,21 +57,33 @@ fn second_put<D: Delivery>(delivery: &mut D, first: Parcel, second: Parcel) -> R
 }
 
 // Below a relay the meeting is layer 1.
-fn relay_over_meeting(pile: &mut Relay<Meeting>, first: Parcel, second: Parcel) -> Result<Accepted, PutRefusal>
+fn relay_over_meeting(
+    pile: &mut Relay<Meeting>,
+    first: Parcel,
+    second: Parcel,
+) -> Result<Accepted, PutRefusal>
     ensures { λ r. ⌜ (Apart first second → now (pile .entry) .below .capacity ≡ 1 → r ≡ Err (Full 1)) ⌝ }
 {
     second_put(pile, first, second)
 }
 
 // The bound at its limit is named, not the bottom.
-fn tall_pile(pile: &mut Relay<Bound<Relay<PairedLine>>>, first: Parcel, second: Parcel) -> Result<Accepted, PutRefusal>
+fn tall_pile(
+    pile: &mut Relay<Bound<Relay<PairedLine>>>,
+    first: Parcel,
+    second: Parcel,
+) -> Result<Accepted, PutRefusal>
     ensures { λ r. ⌜ (Apart first second → now (pile .entry) .below .limit ≡ 1 → r ≡ Err (Full 1)) ⌝ }
 {
     second_put(pile, first, second)
 }
 
 // The uppermost bound at its limit is named, and the bottom if no bound is.
-fn bounds_over_meeting(pile: &mut Bound<Bound<Meeting>>, first: Parcel, second: Parcel) -> Result<Accepted, PutRefusal>
+fn bounds_over_meeting(
+    pile: &mut Bound<Bound<Meeting>>,
+    first: Parcel,
+    second: Parcel,
+) -> Result<Accepted, PutRefusal>
     ensures outer { λ r. ⌜ (Apart first second → now (pile .entry) .limit ≡ 1 → r ≡ Err (Full 0)) ⌝ }
     ensures inner { λ r. ⌜ (Apart first second → now (pile .entry) .limit ≡ 2 → now (pile .entry) .below .limit ≡ 1 → r ≡ Err (Full 1)) ⌝ }
     ensures bottom { λ r. ⌜ (Apart first second → now (pile .entry) .limit ≡ 2 → now (pile .entry) .below .limit ≡ 2 → now (pile .entry) .below .below .capacity ≡ 1 → r ≡ Err (Full 2)) ⌝ }

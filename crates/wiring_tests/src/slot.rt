@@ -74,3 +74,41 @@ impl Delivery for Slot as SlotDelivery {
         1
     }
 }
+
+#[cfg(test)]
+use crate::step::Step;
+#[cfg(test)]
+use crate::step::play;
+#[cfg(test)]
+use layers::bound::Bound;
+#[cfg(test)]
+use layers::bounded::BoundDelivery;
+#[cfg(test)]
+use std::test::*;
+
+// The count of layers stops at 255, and a stranger's layers are passed on like ours.
+#[test]
+fn layers_stop_at_255() -> Result<(), Fail> {
+    let Ok(lower) = Bound::new(
+        Slot {
+            parcel: None,
+            layer: 254,
+        },
+        2,
+    ) else {
+        return Err(Fail::new("no bound"));
+    };
+    let Ok(upper) = Bound::new(lower, 3) else {
+        return Err(Fail::new("no bound"));
+    };
+    let mut pile = upper;
+    play(
+        &mut pile,
+        &[
+            Step::Put(0, 0, 1),
+            Step::Refused(1, 0, 1, PutRefusal::Full { layer: 255 }),
+            Step::Stays(1, TakeRefusal::Absent { layer: 255 }),
+            Step::Take(0, 0, 1),
+        ],
+    )
+}
