@@ -1,7 +1,7 @@
 // Layers that stand over any delivery, hold it by value and give it back when taken apart.
 pub mod bound;
 pub mod bounded;
-pub mod deeper;
+mod deeper;
 pub mod group;
 pub mod relay;
 pub mod relayed;

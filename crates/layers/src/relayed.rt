@@ -60,7 +60,7 @@ impl<D: Delivery> Relay<D> {
         if self.group.has(tag.sender) {
             Tag {
                 sender: self.station,
-                receiver: tag.receiver,
+                ..tag
             }
         } else {
             tag

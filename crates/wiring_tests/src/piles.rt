@@ -1,6 +1,7 @@
 // Layers over bottoms and over one another.
 use crate::step::Step;
 use crate::step::play;
+use chart::numbers::InstanceId;
 use chart::numbers::MessageId;
 use delivery::meaning::Delivery;
 use delivery::refusal::PutRefusal;
@@ -25,19 +26,25 @@ fn bound<D: Delivery + Drop>(below: D, number: u16) -> Result<Bound<D>, Fail> {
     }
 }
 
+fn group(one: u16, other: u16) -> Result<Group, Fail> {
+    let Some(first) = Group::NONE.with(InstanceId(one)) else {
+        return Err(Fail::new("no such instance"));
+    };
+    match first.with(InstanceId(other)) {
+        Some(both) => Ok(both),
+        None => Err(Fail::new("no such instance")),
+    }
+}
+
 // A relay of the two given instances.
 fn relay<D: Delivery + Drop>(
     below: D,
-    one: usize,
-    other: usize,
+    one: u16,
+    other: u16,
     number: u16,
 ) -> Result<Relay<D>, Fail> {
-    let mut group = Group([false; 16]);
-    if one < 16 && other < 16 {
-        group.0[one] = true;
-        group.0[other] = true;
-    }
-    match Relay::new(below, group, number) {
+    let members = group(one, other)?;
+    match Relay::new(below, members, number) {
         Ok(relay) => Ok(relay),
         Err(_) => Err(Fail::new("no relay")),
     }

@@ -12,7 +12,7 @@ pub trait HoldRule {
 
     law carries: { (s : Self) (a b c : Tag) → held s a b ≡ true → held s b c ≡ true → held s a c ≡ true };
 
-    fn test(&self, first: Tag, second: Tag) -> bool
+    fn holds(&self, first: Tag, second: Tag) -> bool
         ensures { λ r. ⌜ r ≡ held (now (self .entry)) first second ⌝ };
 }
 
@@ -23,7 +23,7 @@ pub struct NoHold;
 pub impl HoldRule for NoHold as NoHoldRule {
     ghost held = { λ _. no-hold };
 
-    fn test(&self, _first: Tag, _second: Tag) -> bool {
+    fn holds(&self, _first: Tag, _second: Tag) -> bool {
         false
     }
 }
@@ -35,7 +35,7 @@ pub struct SamePair;
 pub impl HoldRule for SamePair as SamePairRule {
     ghost held = { λ _. same-pair };
 
-    fn test(&self, first: Tag, second: Tag) -> bool {
+    fn holds(&self, first: Tag, second: Tag) -> bool {
         first.sender == second.sender && first.receiver == second.receiver
     }
 }
@@ -47,7 +47,7 @@ pub struct SameReceiver;
 pub impl HoldRule for SameReceiver as SameReceiverRule {
     ghost held = { λ _. same-receiver };
 
-    fn test(&self, first: Tag, second: Tag) -> bool {
+    fn holds(&self, first: Tag, second: Tag) -> bool {
         first.receiver == second.receiver
     }
 }

@@ -2,7 +2,7 @@
 pub mod bottoms;
 pub mod hold_rule;
 pub mod queue;
-pub mod search;
+mod search;
 pub mod waiting;
 
 pub use bottoms::Bag;

@@ -49,7 +49,7 @@ pub(crate) fn holder_ahead<R: HoldRule>(
         if parcel.message == message {
             return None;
         }
-        if rule.test(parcel.tag, tag) {
+        if rule.holds(parcel.tag, tag) {
             return Some(parcel.message);
         }
     }

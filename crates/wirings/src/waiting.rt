@@ -86,7 +86,7 @@ pub impl<R: HoldRule> Delivery for Queue<R> as QueueDelivery {
     }
 
     fn holds(&self, first: Tag, second: Tag) -> bool {
-        self.rule.test(first, second)
+        self.rule.holds(first, second)
     }
 
     fn capacity(&self) -> u16 {

@@ -9,13 +9,13 @@ pub returns-then-eq : need.returns-then-eq
 returns-then-eq g c =
     sym (sym (c .loop-parcel .inv) ∙ none-ahead _ _ (c .loop-parcel-test .taken) _ (c .parcel-item .is) _ (c .eq .ensures .0 (c .if-eq .taken)) (g .R·HoldRule .held (c .args .rule .now)) _)
 
-pub returns-then-test : need.returns-then-test
-returns-then-test g c =
-    sym (sym (c .loop-parcel .inv) ∙ holder-at _ _ (c .loop-parcel-test .taken) _ (c .parcel-item .is) _ (λ e. both-ways _ (c .if-eq .left) (c .eq .ensures .1 e)) (g .R·HoldRule .held (c .args .rule .now)) _ (sym (c .test .ensures) ∙ c .if-test .taken))
+pub returns-then-holds : need.returns-then-holds
+returns-then-holds g c =
+    sym (sym (c .loop-parcel .inv) ∙ holder-at _ _ (c .loop-parcel-test .taken) _ (c .parcel-item .is) _ (λ e. both-ways _ (c .if-eq .left) (c .eq .ensures .1 e)) (g .R·HoldRule .held (c .args .rule .now)) _ (sym (c .holds .ensures) ∙ c .if-holds .taken))
 
 pub loop-parcel-again : need.loop-parcel-again
 loop-parcel-again g c =
-    sym (holder-past _ _ (c .loop-parcel-test .taken) _ (c .parcel-item .is) _ (λ e. both-ways _ (c .if-eq .left) (c .eq .ensures .1 e)) (g .R·HoldRule .held (c .args .rule .now)) _ (sym (c .test .ensures) ∙ c .if-test .left)) ∙ c .loop-parcel .inv
+    sym (holder-past _ _ (c .loop-parcel-test .taken) _ (c .parcel-item .is) _ (λ e. both-ways _ (c .if-eq .left) (c .eq .ensures .1 e)) (g .R·HoldRule .held (c .args .rule .now)) _ (sym (c .holds .ensures) ∙ c .if-holds .left)) ∙ c .loop-parcel .inv
 
 pub returns : need.returns
 returns g c =
