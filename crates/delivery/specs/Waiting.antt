@@ -1,5 +1,4 @@
 -- Waiting parcels, as a list in the order in which they were accepted.
-use mathlib.Core.Path.{_≡_}
 use mathlib.Core.List.{List, [], _∷_}
 use mathlib.Core.Bool.{Bool, true, false, cond, _||_, _&&_, not}
 use Prim.Native.Nat.{ℕ}

@@ -18,6 +18,7 @@ use delivery::refusal::PutRefusal;
 use delivery::refusal::TakeRefusal;
 
 impl<D: Delivery> Bound<D> {
+    // A bound is 1 to 64; for another number the delivery comes back.
     pub fn new(below: D, number: u16) -> Result<Bound<D>, Unbuilt<D>>
         ensures { λ r. ⌜ BoundMade below number r ⌝ }
     {
@@ -30,6 +31,7 @@ impl<D: Delivery> Bound<D> {
         })
     }
 
+    // Takes the layer off.
     pub fn into_below(self) -> D
         ensures { λ r. ⌜ r ≡ self .below ⌝ }
     {
@@ -37,7 +39,7 @@ impl<D: Delivery> Bound<D> {
         below
     }
 
-    // Whether the bound itself refuses a parcel of this message as full: far and double go before full, and are told from below.
+    // Whether the bound itself refuses a parcel of this message as full. Far and double go before full, and are told from below.
     fn shut(&self, message: MessageId) -> bool
         ensures { λ r. ⌜ (D·Delivery .started (now (self .entry) .below) → r ≡ shut-at (now (self .entry) .limit) (message .0) (D·Delivery .waiting (now (self .entry) .below))) ⌝ }
     {

@@ -21,6 +21,7 @@ use delivery::refusal::TakeRefusal;
 use delivery::station::Station;
 
 impl<D: Delivery> Relay<D> {
+    // A relay is 16 to 31; for another number the delivery comes back.
     pub fn new(below: D, group: Group, number: u16) -> Result<Relay<D>, Unbuilt<D>>
         ensures { λ r. ⌜ RelayMade below group number r ⌝ }
     {
@@ -41,6 +42,7 @@ impl<D: Delivery> Relay<D> {
         }
     }
 
+    // Takes the layer off.
     pub fn into_below(self) -> D
         ensures { λ r. ⌜ r ≡ self .below ⌝ }
     {
@@ -79,6 +81,7 @@ impl<D: Delivery> Relay<D> {
         }
     }
 
+    // What a take answers above: the parcel with the tag that it was put with.
     fn lift(&self, answer: Result<Parcel, TakeRefusal>) -> Result<Parcel, TakeRefusal>
         ensures { λ r. ⌜ r ≡ take-lifted (now (self .entry) .given) answer ⌝ }
     {

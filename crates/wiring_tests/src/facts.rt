@@ -1,11 +1,10 @@
 // Facts about whole piles, each proved from the contracts of its parts alone.
 ghost use mathlib.Core.Path.{_≡_};
 ghost use mathlib.Core.Bool.{false, _&&_};
-ghost use Prim.Native.Nat.{_<_};
 ghost use lib.Dec.{eqb};
-ghost use Rattle.std.specs.declared.result.Result.the-variants.{Ok, Err};
-ghost use Rattle.delivery.specs.declared.refusal.PutRefusal.the-variants.{Far, Double, Full};
-ghost use Rattle.delivery.specs.Answers.{full, Named};
+ghost use Rattle.std.specs.declared.result.Result.the-variants.{Err};
+ghost use Rattle.delivery.specs.declared.refusal.PutRefusal.the-variants.{Full};
+ghost use Rattle.delivery.specs.Answers.{full};
 ghost use Rattle.wiring_tests.specs.Piles.{Apart, SecondIsFull};
 use delivery::meaning::Delivery;
 use delivery::parcel::Parcel;

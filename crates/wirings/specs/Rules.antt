@@ -1,5 +1,5 @@
 -- The hold rules of the bottoms.
-use mathlib.Core.Bool.{Bool, true, false, _&&_}
+use mathlib.Core.Bool.{Bool, false, _&&_}
 use lib.Dec.{eqb}
 use Rattle.delivery.specs.declared.parcel.Tag.{Tag}
 

@@ -1,4 +1,4 @@
-use mathlib.Core.Path.{_≡_, ap, subst}
+use mathlib.Core.Path.{ap, subst}
 use mathlib.Core.List.{List}
 use Rattle.std.specs.declared.result.Result.the-variants.{Ok, Err}
 use Rattle.delivery.specs.declared.parcel.Tag.{Tag}
