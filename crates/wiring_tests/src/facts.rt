@@ -1,16 +1,21 @@
 // Facts about whole piles, each proved from the contracts of its parts alone.
 ghost use mathlib.Core.Path.{_≡_};
 ghost use mathlib.Core.Bool.{false, _&&_};
+ghost use Prim.Native.Nat.{_≤_};
 ghost use lib.Dec.{eqb};
 ghost use Rattle.std.specs.declared.result.Result.the-variants.{Err};
-ghost use Rattle.delivery.specs.declared.refusal.PutRefusal.the-variants.{Full};
+ghost use Rattle.delivery.specs.declared.refusal.PutRefusal.the-variants.{Far, Full};
+ghost use Rattle.delivery.specs.declared.refusal.TakeRefusal.the-variants.{Absent};
 ghost use Rattle.delivery.specs.Answers.{full};
+ghost use Rattle.delivery.specs.Waiting.{message-limit};
 ghost use Rattle.wiring_tests.specs.Piles.{Apart, SecondIsFull};
+use chart::numbers::MessageId;
 use delivery::meaning::Delivery;
 use delivery::parcel::Parcel;
 use delivery::parcel::Tag;
 use delivery::refusal::Accepted;
 use delivery::refusal::PutRefusal;
+use delivery::refusal::TakeRefusal;
 use layers::bound::Bound;
 use layers::bounded::BoundDelivery;
 use layers::relay::Relay;
@@ -88,4 +93,25 @@ fn bounds_over_meeting(
     ensures bottom { λ r. ⌜ (Apart first second → now (pile .entry) .limit ≡ 2 → now (pile .entry) .below .limit ≡ 2 → now (pile .entry) .below .below .capacity ≡ 1 → r ≡ Err (Full 2)) ⌝ }
 {
     second_put(pile, first, second)
+}
+
+// Every refusal but full names the bottom.
+fn far_from_tall_pile(
+    pile: &mut Relay<Bound<Relay<PairedLine>>>,
+    parcel: Parcel,
+) -> Result<Accepted, PutRefusal>
+    ensures { λ r. ⌜ (message-limit ≤ parcel .message .0 → r ≡ Err (Far 3)) ⌝ }
+{
+    pile.empty();
+    pile.put(parcel)
+}
+
+fn absent_from_tall_pile(
+    pile: &mut Relay<Bound<Relay<PairedLine>>>,
+    message: MessageId,
+) -> Result<Parcel, TakeRefusal>
+    ensures { λ r. ⌜ r ≡ Err (Absent 3) ⌝ }
+{
+    pile.empty();
+    pile.take(message)
 }
