@@ -8,10 +8,13 @@ use Rattle.chart.specs.Words.{Text}
 abbrev pub isLineFeed : ℕ → Bool
 isLineFeed b = eqb b 10
 
+abbrev pub isOther : ℕ → Bool
+isOther b = not (isLineFeed b)
+
 -- the line that follows these bytes: one more than their line feeds
 abbrev pub lineAfter : Text → ℕ
 lineAfter bs = 1 + countBy isLineFeed bs
 
 -- its column: one more than the bytes after the last line feed
 abbrev pub columnAfter : Text → ℕ
-columnAfter bs = 1 + ending (λ b. not (isLineFeed b)) bs
+columnAfter bs = 1 + ending isOther bs

@@ -1,6 +1,11 @@
 // What the program is asked to do.
+ghost use mathlib.Core.Path.{_≡_};
+ghost use Rattle.std.specs.Of.String.{string-bytes};
+ghost use Rattle.std.specs.Options.{mapped};
+ghost use Rattle.rehearse.specs.Requests.{wishOf, asked, dashed};
 use super::failures::Failure;
 use super::input::Source;
+use chart::words::same_text;
 use std::env;
 
 pub const USAGE: &str = "usage: rehearse [FILE]\nShows the chart of FILE, or of standard input where FILE is left out or is -.";
@@ -11,13 +16,29 @@ pub enum Request {
     Show(Source),
 }
 
-// What one word asks for.
-fn request_of(word: String) -> Request {
-    match word.as_str() {
-        "--help" => Request::Help,
-        "-" => Request::Show(Source::Input),
-        _ => Request::Show(Source::File(word)),
+fn begins_with_dash(word: &[u8]) -> bool
+    ensures { λ r. ⌜ r ≡ dashed (now (word .entry)) ⌝ }
+{
+    match word {
+        [first, ..] => *first == b'-',
+        [] => false,
     }
+}
+
+// What one word asks for; nothing, if it looks like an option and is none.
+fn request_of(word: String) -> Option<Request>
+    ensures { λ r. ⌜ mapped wishOf r ≡ asked (string-bytes word) ⌝ }
+{
+    if same_text(word.as_bytes(), b"--help") {
+        return Some(Request::Help);
+    }
+    if same_text(word.as_bytes(), b"-") {
+        return Some(Request::Show(Source::Input));
+    }
+    if begins_with_dash(word.as_bytes()) {
+        return None;
+    }
+    Some(Request::Show(Source::File(word)))
 }
 
 pub fn requested(rt: &LibcRuntime) -> Result<Request, Failure> {
@@ -31,5 +52,8 @@ pub fn requested(rt: &LibcRuntime) -> Result<Request, Failure> {
     if words.next().is_some() {
         return Err(Failure::Usage);
     }
-    Ok(request_of(word))
+    match request_of(word) {
+        Some(request) => Ok(request),
+        None => Err(Failure::Usage),
+    }
 }

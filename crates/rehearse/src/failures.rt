@@ -1,4 +1,6 @@
 // Why nothing is shown.
+ghost use mathlib.Core.Path.{_≡_};
+ghost use Rattle.rehearse.specs.Failures.{failureOf};
 use super::arguments::USAGE;
 use super::positions::position_after;
 use super::positions::Position;
@@ -29,7 +31,9 @@ pub impl From<AllocError> for Failure as FailureFromAlloc {
     }
 }
 
-pub fn refused(error: ReadError, text: &[u8]) -> Failure {
+pub fn refused(error: ReadError, text: &[u8]) -> Failure
+    ensures { λ r. ⌜ r ≡ failureOf error (now (text .entry)) ⌝ }
+{
     match error {
         ReadError::OutOfMemory => Failure::OutOfMemory,
         ReadError::Refused(refusal) => Failure::Refused(refusal, position_after(&text[0..refusal.place().min(text.len())])),

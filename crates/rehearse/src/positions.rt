@@ -4,7 +4,7 @@ ghost use Rattle.rehearse.specs.Positions.{lineAfter, columnAfter};
 
 // A place as one who looks for it counts: lines and columns from 1. A column counts bytes, so a tab is one and a
 // character of several bytes is several. The numbers are wide enough for one more than any length.
-#[derive(Clone, Copy, PartialEq, Eq, Debug)]
+#[derive(Clone, Copy)]
 pub struct Position {
     pub line: u128,
     pub column: u128,

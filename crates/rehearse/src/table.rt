@@ -1,17 +1,36 @@
 // A chart as a table.
+ghost use mathlib.Core.Path.{_≡_};
+ghost use Rattle.std.specs.Of.String.{string-bytes};
+ghost use Rattle.std.specs.Options.{mapped};
+ghost use Rattle.std.specs.Vec.{made};
+ghost use Rattle.chart.specs.Charted.{content};
+ghost use Rattle.chart.specs.Names.{textOf};
+ghost use Rattle.rehearse.specs.Rows.{told, rowOf, lineWords, partnerOf};
 use super::failures::Failure;
 use super::failures::FailureFromAlloc;
 use super::failures::FailureFromIo;
-use chart::charting::asking::Line;
 use chart::charting::Chart;
 use chart::names::Name;
 use chart::numbers::EventId;
+use chart::numbers::InstanceId;
+use chart::pieces::Message;
 use chart::pieces::Side;
 use std::alloc::AllocError;
 use std::alloc::Global;
 use std::str::from_utf8;
 
-fn shown(name: &Name) -> &str {
+// What a row tells of an event: its instance, side and message, and the instance at the other end.
+#[derive(Clone, Copy)]
+pub struct Row<'a> {
+    pub instance: &'a Name,
+    pub side: Side,
+    pub message: &'a Name,
+    pub partner: &'a Name,
+}
+
+fn shown(name: &Name) -> &str
+    ensures { λ r. ⌜ now r ≡ textOf (now (name .entry)) ⌝ }
+{
     match from_utf8(name.text()) {
         Ok(text) => text,
         Err(_) => unreachable(),
@@ -19,7 +38,9 @@ fn shown(name: &Name) -> &str {
 }
 
 // An event as its line tells it, but for the instance.
-fn line_text(heap: Global, side: Side, message: &str, partner: &str) -> Result<String, AllocError> {
+fn line_text(heap: Global, side: Side, message: &str, partner: &str) -> Result<String, AllocError>
+    ensures { λ r. ⌜ made r (λ s. string-bytes s ≡ lineWords side (now (message .entry)) (now (partner .entry))) ⌝ }
+{
     match side {
         Side::Out => format!(heap, "out {message} to {partner}"),
         Side::In => format!(heap, "in {message} from {partner}"),
@@ -46,18 +67,36 @@ fn print_instances(rt: &LibcRuntime, chart: &Chart) -> Result<(), Failure> {
     Ok(())
 }
 
-fn print_event(rt: &LibcRuntime, chart: &Chart, number: EventId, width: usize) -> Result<(), Failure> {
-    let Some(line) = chart.line(number) else {
-        return Ok(());
-    };
-    let message = &chart.messages()[line.message.0 as usize];
-    let instance = shown(&chart.instances()[line.instance.0 as usize]);
-    let partner = match line.side {
+// The instance at the other end of an event's message.
+fn partner(side: Side, message: &Message) -> InstanceId
+    ensures { λ r. ⌜ r ≡ partnerOf side (now (message .entry)) ⌝ }
+{
+    match side {
         Side::Out => message.receiver,
         Side::In => message.sender,
+    }
+}
+
+fn row_of(chart: &Chart, number: EventId) -> Option<Row<'_>>
+    ensures { λ r. ⌜ mapped told r ≡ rowOf (content (now (chart .entry))) (number .0) ⌝ }
+{
+    let Some(line) = chart.line(number) else {
+        return None;
     };
-    let words = line_text(rt.alloc(), line.side, shown(&message.name), shown(&chart.instances()[partner.0 as usize]))?;
-    let number = number.0;
+    let message = &chart.messages()[line.message.0 as usize];
+    let partner = partner(line.side, message);
+    let instances = chart.instances();
+    Some(Row {
+        instance: &instances[line.instance.0 as usize],
+        side: line.side,
+        message: &message.name,
+        partner: &instances[partner.0 as usize],
+    })
+}
+
+fn print_row(rt: &LibcRuntime, number: usize, row: Row<'_>, width: usize) -> Result<(), Failure> {
+    let instance = shown(row.instance);
+    let words = line_text(rt.alloc(), row.side, shown(row.message), shown(row.partner))?;
     println!(rt, "{number:>8}  {instance:<width$}  {words}")?;
     Ok(())
 }
@@ -71,7 +110,9 @@ pub fn print_chart(rt: &LibcRuntime, chart: &Chart) -> Result<(), Failure> {
     let width = longest(chart.instances());
     println!(rt, "\n   event  {:<width$}  line", "instance")?;
     for number in 0..chart.events().len() {
-        print_event(rt, chart, EventId(number as u16), width)?;
+        if let Some(row) = row_of(chart, EventId(number as u16)) {
+            print_row(rt, number, row, width)?;
+        }
     }
     let instances = chart.instances().len();
     let messages = chart.messages().len();
