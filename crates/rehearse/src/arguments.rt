@@ -42,10 +42,10 @@ fn request_of(word: String) -> Option<Request>
 }
 
 pub fn requested(rt: &LibcRuntime) -> Result<Request, Failure> {
-    let Ok(args) = env::args(rt) else {
-        return Err(Failure::Usage);
+    let mut words = match env::args(rt) {
+        Ok(args) => args.skip(1),
+        Err(error) => return Err(Failure::NoArguments(error)),
     };
-    let mut words = args.skip(1);
     let Some(word) = words.next() else {
         return Ok(Request::Show(Source::Input));
     };

@@ -13,6 +13,7 @@ use std::io;
 #[derive(Drop)]
 pub enum Failure {
     Usage,
+    NoArguments(io::Error),
     Unreadable(io::Error),
     OutOfMemory,
     Refused(Refusal, Position),
@@ -59,7 +60,8 @@ pub impl fmt::Display for Failure as FailureDisplay {
     fn fmt<W: fmt::Write>(&self, f: &mut fmt::Formatter<W>) -> fmt::Result {
         match self {
             Failure::Usage => write!(f, "{USAGE}"),
-            Failure::Unreadable(error) => write!(f, "cannot read: {error}"),
+            Failure::NoArguments(error) => write!(f, "cannot read the arguments: {error}"),
+            Failure::Unreadable(error) => write!(f, "cannot read the chart text: {error}"),
             Failure::OutOfMemory => write!(f, "out of memory"),
             Failure::Refused(refusal, place) => {
                 let number = refusal.number();
@@ -69,7 +71,7 @@ pub impl fmt::Display for Failure as FailureDisplay {
                 let column = place.column;
                 write!(f, "refused {number} at {at}\n{words}\nline {line}, column {column}")
             }
-            Failure::Unwritten(error) => write!(f, "cannot write: {error}"),
+            Failure::Unwritten(error) => write!(f, "cannot write the table: {error}"),
         }
     }
 }
