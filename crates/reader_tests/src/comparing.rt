@@ -1,7 +1,7 @@
 // Whether two charts say the same.
 use chart::charting::Chart;
-use chart::names::naming::NameSame;
 use chart::names::Name;
+use chart::names::naming::NameSame;
 use chart::numbers::InstanceIdPartialEq;
 use chart::pieces::EventPartialEq;
 use chart::pieces::Message;
@@ -28,7 +28,10 @@ fn same_names(a: &[Name], b: &[Name]) -> bool {
 
 fn same_messages(a: &[Message], b: &[Message]) -> bool {
     for (one, other) in a.iter().zip(b.iter()) {
-        if !one.name.is_same(&other.name) || one.sender != other.sender || one.receiver != other.receiver {
+        if !one.name.is_same(&other.name)
+            || one.sender != other.sender
+            || one.receiver != other.receiver
+        {
             return false;
         }
     }

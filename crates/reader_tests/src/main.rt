@@ -4,6 +4,7 @@ mod cases;
 mod comparing;
 mod making;
 mod showing;
+
 use accepted::ACCEPTED;
 use cases::Case;
 use cases::REFUSED;
@@ -14,20 +15,21 @@ use making::heading;
 use making::list_of;
 use making::receives;
 use making::sends;
-use reader::reading::read;
 use reader::reading::ReadError;
 use reader::reading::TEXT_LIMIT;
+use reader::reading::read;
 use showing::print_chart;
 use showing::print_counts;
 use showing::print_error;
 use std::io;
 
 // A chart to read over.
-const FORMER: &[u8] = b"msc former; inst x, y, z; x: out one to y; z: out two to x; x: in two from z; y: in one from x; endmsc;";
+const FORMER: &[u8] =
+    b"msc former; inst x, y, z; x: out one to y; z: out two to x; x: in two from z; y: in one from x; endmsc;";
 
-fn is_expected(answer: &Result<(), ReadError>, case: &Case) -> bool {
+fn is_expected(answer: &Result<(), ReadError>, number: u8, place: usize) -> bool {
     match answer {
-        Err(ReadError::Refused(refusal)) => refusal.number() == case.number && refusal.place() == case.place,
+        Err(ReadError::Refused(refusal)) => refusal.number() == number && refusal.place() == place,
         _ => false,
     }
 }
@@ -40,12 +42,10 @@ fn try_refused(rt: &LibcRuntime) -> io::Result<()> {
     if read(&mut former, FORMER).is_err() || read(&mut kept, FORMER).is_err() {
         return println!(rt, "the former chart is not read");
     }
-    for (index, case) in REFUSED.iter().enumerate() {
-        let over = read(&mut kept, case.text);
-        let fresh = read(&mut blank, case.text);
-        if !is_expected(&over, case) || !is_expected(&fresh, case) {
-            let number = case.number;
-            let place = case.place;
+    for (index, Case(text, number, place)) in REFUSED.iter().enumerate() {
+        let over = read(&mut kept, text);
+        let fresh = read(&mut blank, text);
+        if !is_expected(&over, *number, *place) || !is_expected(&fresh, *number, *place) {
             println!(rt, "case {index}: not refused {number} at {place}")?;
         }
         if !same_charts(&kept, &former) || !same_charts(&blank, &Chart::blank(rt.alloc())) {

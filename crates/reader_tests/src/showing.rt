@@ -59,7 +59,10 @@ pub fn print_counts(rt: &LibcRuntime, chart: &Chart) -> io::Result<()> {
     let instances = chart.instances().len();
     let messages = chart.messages().len();
     let events = chart.events().len();
-    println!(rt, "chart: {instances} instances, {messages} messages, {events} events")
+    println!(
+        rt,
+        "chart: {instances} instances, {messages} messages, {events} events"
+    )
 }
 
 pub fn print_error(rt: &LibcRuntime, error: ReadError) -> io::Result<()> {

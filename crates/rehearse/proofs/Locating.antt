@@ -29,7 +29,7 @@ same-position : {a b c d : ℕ} → a ≡ c → b ≡ d → _≡_ {A = Position}
 same-position {a} {b} {c} {d} e f = ap (λ (x : ℕ). record { line = x; column = b }) e ∙ ap (λ (x : ℕ). record { line = c; column = x }) f
 
 pub located : (t : Text) (e : ReadError) (r : Refusal) (k n : ℕ) (p : Position) → e ≡ reading.Refused r → k ≡ place r → n ≡ min k (length t) → p .line ≡ lineAfter (take (n - 0) t) → p .column ≡ columnAfter (take (n - 0) t)
-  → failure.Refused r p ≡ failureOf e t
+    → failure.Refused r p ≡ failureOf e t
 located t e r k n p e-is k-is n-is line column =
     let front = front-is t k n n-is ∙ ap (λ i. take i t) k-is in
     ap (failure.Refused r) (same-position (line ∙ ap lineAfter front) (column ∙ ap columnAfter front)) ∙ ap (λ x. failureOf x t) (sym e-is)

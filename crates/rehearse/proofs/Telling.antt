@@ -50,7 +50,7 @@ drawn-message c (sent m) = refl
 drawn-message c (received m) = refl
 
 same-telling : {a a₁ : Text} {s s₁ : Side} {b b₁ : Text} {d d₁ : Text} → a ≡ a₁ → s ≡ s₁ → b ≡ b₁ → d ≡ d₁
-  → _≡_ {A = Telling} (record { instance = a; side = s; message = b; partner = d }) (record { instance = a₁; side = s₁; message = b₁; partner = d₁ })
+    → _≡_ {A = Telling} (record { instance = a; side = s; message = b; partner = d }) (record { instance = a₁; side = s₁; message = b₁; partner = d₁ })
 same-telling {a} {a₁} {s} {s₁} {b} {b₁} {d} {d₁} e f g h =
     ap (λ (x : Text). record { instance = x; side = s; message = b; partner = d }) e
     ∙ ap (λ (x : Side). record { instance = a₁; side = x; message = b; partner = d }) f
@@ -77,7 +77,7 @@ other-known c join (sent m) known = receiver-known c join m known
 other-known c join (received m) known = sender-known c join m known
 
 telling-is : (c : Content) (h : Happening)
-  → _≡_ {A = Telling} (record { instance = instanceName c (drawn c h .instance .0); side = drawn c h .side; message = messageName c (messageOf h); partner = instanceName c (otherEnd c h) }) (tellingOf c h)
+    → _≡_ {A = Telling} (record { instance = instanceName c (drawn c h .instance .0); side = drawn c h .side; message = messageName c (messageOf h); partner = instanceName c (otherEnd c h) }) (tellingOf c h)
 telling-is c (sent m) = refl
 telling-is c (received m) = refl
 
@@ -124,7 +124,7 @@ module _ (p : Parts) (inside : Inside (contentOf p)) (join : AllJoin (contentOf 
           mapped-at textOf ns i x low x-is [] ∙ ap (λ (xs : List Name). getD (map textOf xs) i []) ns-are ∙ ap (λ k. getD (contentOf p .instances) k []) same
 
       pub row-is : (x y : Name) (i : InstanceId) → x ≡ getD ns (l .instance .0) x → i ≡ partnerOf (l .side) m → y ≡ getD ns (i .0) y
-        → Some (record { instance = textOf x; side = l .side; message = textOf (m .name); partner = textOf y }) ≡ rowOf (contentOf p) e
+          → Some (record { instance = textOf x; side = l .side; message = textOf (m .name); partner = textOf y }) ≡ rowOf (contentOf p) e
       row-is x y i x-is i-is y-is =
           ap Some
           (same-telling

@@ -8,7 +8,8 @@ use super::input::Source;
 use chart::words::same_text;
 use std::env;
 
-pub const USAGE: &str = "usage: rehearse [FILE]\nShows the chart of FILE, or of standard input where FILE is left out or is -.";
+pub const USAGE: &str =
+    "usage: rehearse [FILE]\nShows the chart of FILE, or of standard input where FILE is left out or is -.";
 
 #[derive(Drop)]
 pub enum Request {

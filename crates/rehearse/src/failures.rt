@@ -2,8 +2,8 @@
 ghost use mathlib.Core.Path.{_≡_};
 ghost use Rattle.rehearse.specs.Failures.{failureOf};
 use super::arguments::USAGE;
-use super::positions::position_after;
 use super::positions::Position;
+use super::positions::position_after;
 use reader::reading::ReadError;
 use reader::refusals::Refusal;
 use std::alloc::AllocError;
@@ -37,21 +37,26 @@ pub fn refused(error: ReadError, text: &[u8]) -> Failure
 {
     match error {
         ReadError::OutOfMemory => Failure::OutOfMemory,
-        ReadError::Refused(refusal) => Failure::Refused(refusal, position_after(&text[0..refusal.place().min(text.len())])),
+        ReadError::Refused(refusal) => Failure::Refused(
+            refusal,
+            position_after(&text[0..refusal.place().min(text.len())]),
+        ),
     }
 }
 
 fn meaning(refusal: Refusal) -> &'static str {
     match refusal {
         Refusal::TextTooLong => "the text is longer than 16384 bytes",
-        Refusal::Unexpected { .. } => "this is not what the form of a chart wants here, or the text ends early",
+        Refusal::Unexpected { .. } =>
+            "this is not what the form of a chart wants here, or the text ends early",
         Refusal::NameTooLong { .. } => "the name is longer than 24 bytes",
         Refusal::TooManyInstances { .. } => "this instance is one more than 16",
         Refusal::NamedTwice { .. } => "the name stands here a second time",
         Refusal::UnknownInstance { .. } => "the list of instances lacks this name",
         Refusal::SentToItself { .. } => "the receiver is the sender",
         Refusal::TooManyMessages { .. } => "this message is one more than 64",
-        Refusal::NotAsSent { .. } => "no message that waits to be received was sent like this: see its out line, its receiver and its sender",
+        Refusal::NotAsSent { .. } =>
+            "no message that waits to be received was sent like this: see its out line, its receiver and its sender",
         Refusal::NotReceived { .. } => "the chart ends, and some message was not received",
     }
 }
@@ -69,7 +74,10 @@ pub impl fmt::Display for Failure as FailureDisplay {
                 let words = meaning(*refusal);
                 let line = place.line;
                 let column = place.column;
-                write!(f, "refused {number} at {at}\n{words}\nline {line}, column {column}")
+                write!(
+                    f,
+                    "refused {number} at {at}\n{words}\nline {line}, column {column}"
+                )
             }
             Failure::Unwritten(error) => write!(f, "cannot write the table: {error}"),
         }

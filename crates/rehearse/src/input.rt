@@ -18,8 +18,11 @@ fn bytes_of(rt: &LibcRuntime, source: &Source) -> io::Result<Vec<u8>> {
     let mut bytes = Vec::new(rt.alloc());
     match source {
         Source::Input => rt.stdin().take(ENOUGH).read_to_end(&mut bytes)?,
-        Source::File(path) => File::open(rt, path.as_str())?.take(ENOUGH).read_to_end(&mut bytes)?,
-    };
+        Source::File(path) => File::open(rt, path.as_str())?
+            .take(ENOUGH)
+            .read_to_end(&mut bytes)?,
+    }
+    ;
     Ok(bytes)
 }
 

@@ -4,16 +4,17 @@ mod failures;
 mod input;
 mod positions;
 mod table;
-use arguments::requested;
+
 use arguments::Request;
 use arguments::USAGE;
+use arguments::requested;
 use chart::charting::Chart;
-use failures::refused;
+use failures::Failure;
 use failures::FailureDisplay;
 use failures::FailureFromIo;
-use failures::Failure;
-use input::text_of;
+use failures::refused;
 use input::Source;
+use input::text_of;
 use reader::reading::read;
 use table::print_chart;
 

@@ -117,6 +117,9 @@ pub fn print_chart(rt: &LibcRuntime, chart: &Chart) -> Result<(), Failure> {
     let instances = chart.instances().len();
     let messages = chart.messages().len();
     let events = chart.events().len();
-    println!(rt, "\ninstances {instances}, messages {messages}, events {events}")?;
+    println!(
+        rt,
+        "\ninstances {instances}, messages {messages}, events {events}"
+    )?;
     Ok(())
 }

@@ -9,12 +9,12 @@ use Rattle.rehearse.proofs.positions.position_after.Needs.{then-byte-eq10, els
 pub loop-byte-again : need.loop-byte-again
 loop-byte-again c =
     elim (c .if-byte-eq10 .came) [
-      then-byte-eq10 w ↦
-        let feed = at-line-feed (c .args .before .now) (c .loop-byte .byte-index) (omega arith) (w .if-byte-eq10 .taken) in
-        (omega (arith, w .line-is, c .loop-byte .inv .0, feed .0), omega (arith, w .column-is, feed .1), omega (arith, w .line-is, c .loop-byte .inv .2), omega (arith, w .column-is))
-    | else-byte-eq10 w ↦
-        let other = at-other (c .args .before .now) (c .loop-byte .byte-index) (omega arith) (w .if-byte-eq10 .left) in
-        (omega (arith, w .line-is, c .loop-byte .inv .0, other .0), omega (arith, w .column-is, c .loop-byte .inv .1, other .1), omega (arith, w .line-is, c .loop-byte .inv .2), omega (arith, w .column-is, c .loop-byte .inv .3))
+      | then-byte-eq10 w ↦
+          let feed = at-line-feed (c .args .before .now) (c .loop-byte .byte-index) (omega arith) (w .if-byte-eq10 .taken) in
+          (omega (arith, w .line-is, c .loop-byte .inv .0, feed .0), omega (arith, w .column-is, feed .1), omega (arith, w .line-is, c .loop-byte .inv .2), omega (arith, w .column-is))
+      | else-byte-eq10 w ↦
+          let other = at-other (c .args .before .now) (c .loop-byte .byte-index) (omega arith) (w .if-byte-eq10 .left) in
+          (omega (arith, w .line-is, c .loop-byte .inv .0, other .0), omega (arith, w .column-is, c .loop-byte .inv .1, other .1), omega (arith, w .line-is, c .loop-byte .inv .2), omega (arith, w .column-is, c .loop-byte .inv .3))
     ]
 
 pub returns : need.returns
