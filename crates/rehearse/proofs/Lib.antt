@@ -1,0 +1,4 @@
+pub mod Stepping
+pub mod Spelling
+pub mod Telling
+pub mod Locating

@@ -1,0 +1,4 @@
+pub mod Positions
+pub mod Requests
+pub mod Failures
+pub mod Rows
