@@ -18,7 +18,7 @@ use Rattle.chart.proofs.Counting.{count-push-yes, count-push-no, sumBelow, sum
 use Rattle.chart.proofs.Numbering.{numbered-send, numbered-receipt, not-received, all-events}
 
 pub same-content : (t : Text) {i i′ : List Text} {m m′ : List Post} {e e′ : List Happening} → i ≡ i′ → m ≡ m′ → e ≡ e′
-  → _≡_ {A = Content} (record { title = t; instances = i; messages = m; events = e }) (record { title = t; instances = i′; messages = m′; events = e′ })
+    → _≡_ {A = Content} (record { title = t; instances = i; messages = m; events = e }) (record { title = t; instances = i′; messages = m′; events = e′ })
 same-content t {i} {i′} {m} {m′} {e} {e′} p q r =
     ap (λ x. record { title = t; instances = x; messages = m; events = e }) p
     ∙ ap (λ x. record { title = t; instances = i′; messages = x; events = e }) q
@@ -29,11 +29,11 @@ apart-push ts t apart new k l =
     ⊎-elim
     (λ (e : k ≡ length ts). let here = getD-push ts t [] k (sym e) in let front = take-at ts (t ∷ []) k (sym e) in cc)
     (λ (e : k ≡ length ts → ⊥).
-        let l′ : k < length ts = omega (arith, length-push ts t) in
-        let here = getD-append-left ts (t ∷ []) [] k l′ in
-        let front = take-append-le k ts (t ∷ []) (omega arith) in
-        let before = apart k l′ in
-        cc)
+    let l′ : k < length ts = omega (arith, length-push ts t) in
+    let here = getD-append-left ts (t ∷ []) [] k l′ in
+    let front = take-append-le k ts (t ∷ []) (omega arith) in
+    let before = apart k l′ in
+    cc)
     (cases-eq k (length ts))
 
 joins-more : (m n : ℕ) (p : Post) → m ≤ n → joins m p ≡ true → joins n p ≡ true

@@ -39,6 +39,25 @@ Kept p =
     × (InstancesApart (contentOf p) × (MessagesApart (contentOf p) × (AllJoin (contentOf p) × (Numbered (contentOf p) × (AllSent (contentOf p) × (NoneTwice (contentOf p) × Unit {0}))))))))))))
 
 pub kept : (p : Parts) → Roomy p → Growing (contentOf p) → Kept p
-kept p r g =
-    (r .instance-room, (r .message-room, (r .event-room, (r .titled, (r .some-instance, (r .few-instances, (r .few-messages,
-    (g .instances-apart, (g .messages-apart, (g .all-join, (g .is-numbered, (g .all-sent, (g .none-twice, tt)))))))))))))
+kept p r g = (
+  r .instance-room,
+  (
+    r .message-room,
+    (
+      r .event-room,
+      (
+        r .titled,
+        (
+          r .some-instance,
+          (
+            r .few-instances,
+            (
+              r .few-messages,
+              (g .instances-apart, (g .messages-apart, (g .all-join, (g .is-numbered, (g .all-sent, (g .none-twice, tt)))))),
+            ),
+          ),
+        ),
+      ),
+    ),
+  ),
+)

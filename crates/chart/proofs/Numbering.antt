@@ -16,10 +16,10 @@ abbrev sends : List Happening → ℕ
 sends es = countBy isSending es
 
 -- the two parts of a numbering, at a send and at a receipt
-at-send : (j m : ℕ) (es : List Happening) → numbered j (sent m ∷ es) ≡ true → (m ≡ j) × (numbered (suc j) es ≡ true)
+pub at-send : (j m : ℕ) (es : List Happening) → numbered j (sent m ∷ es) ≡ true → (m ≡ j) × (numbered (suc j) es ≡ true)
 at-send j m es h = let p = and-parts (eqb m j) (numbered (suc j) es) h in (eqb-true m j (p .0), p .1)
 
-at-receipt : (j m : ℕ) (es : List Happening) → numbered j (received m ∷ es) ≡ true → (m < j) × (numbered j es ≡ true)
+pub at-receipt : (j m : ℕ) (es : List Happening) → numbered j (received m ∷ es) ≡ true → (m < j) × (numbered j es ≡ true)
 at-receipt j m es h = let p = and-parts (ltb m j) (numbered j es) h in (ltb-true m j (p .0), p .1)
 
 pub numbered-send : (es : List Happening) (j k : ℕ) → numbered j es ≡ true → j + sends es ≡ k → numbered j (es ++ sent k ∷ []) ≡ true

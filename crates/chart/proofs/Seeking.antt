@@ -12,6 +12,7 @@ use Rattle.std.specs.declared.option.Option.the-variants.{Some, None}
 use Rattle.std.specs.shelf.Text.{sameBytes}
 use Rattle.std.proofs.shelf.Tests.{cases-bool, cond-true, cond-false, both-ways}
 use Rattle.std.proofs.shelf.Lists.{getD-read}
+use Rattle.std.proofs.shelf.Equals.{sameBytes-decides}
 use Rattle.chart.specs.Words.{Text}
 use Rattle.chart.specs.Lookup.{seek}
 
@@ -50,8 +51,8 @@ module _ {X : Type 0} (called : X → Text) (t : Text) where
   seek-absent [] e = λ k l d. absurd (omega arith)
   seek-absent (x ∷ xs) e =
       elim (cases-bool (Is x)) [
-        inl first ↦ some-not-none 0 _ (sym (cond-true (Is x) (Some 0) (mapped suc (seek called t xs)) first) ∙ e)
-      | inr first ↦ none-more x xs first (seek-absent xs (none-before (seek called t xs) (sym (cond-false (Is x) (Some 0) (mapped suc (seek called t xs)) first) ∙ e)))
+        | inl first ↦ some-not-none 0 _ (sym (cond-true (Is x) (Some 0) (mapped suc (seek called t xs)) first) ∙ e)
+        | inr first ↦ none-more x xs first (seek-absent xs (none-before (seek called t xs) (sym (cond-false (Is x) (Some 0) (mapped suc (seek called t xs)) first) ∙ e)))
       ]
 
   -- the comparison of an element that was read
@@ -62,13 +63,33 @@ module _ {X : Type 0} (called : X → Text) (t : Text) where
   seek-inside [] i e = some-not-none i _ (sym e)
   seek-inside (x ∷ xs) i e =
       elim (cases-bool (Is x)) [
-        inl first ↦ let z : Some 0 ≡ Some i = sym (cond-true (Is x) (Some 0) (mapped suc (seek called t xs)) first) ∙ e in let h : 0 ≡ i = cc in omega arith
-      | inr first ↦ after (seek called t xs) i (seek-inside xs) (sym (cond-false (Is x) (Some 0) (mapped suc (seek called t xs)) first) ∙ e)
+        | inl first ↦ let z : Some 0 ≡ Some i = sym (cond-true (Is x) (Some 0) (mapped suc (seek called t xs)) first) ∙ e in let h : 0 ≡ i = cc in omega arith
+        | inr first ↦ after (seek called t xs) i (seek-inside xs) (sym (cond-false (Is x) (Some 0) (mapped suc (seek called t xs)) first) ∙ e)
       ]
     where
       after : (o : Option ℕ) (i : ℕ) → ((j : ℕ) → o ≡ Some j → j < length xs) → mapped suc o ≡ Some i → i < suc (length xs)
       after None i rest e = some-not-none i _ (sym e)
       after (Some j) i rest e = let h : suc j ≡ i = cc in omega (arith, rest j refl)
+
+-- two texts that compare the same are the same
+pub same-is : (a b : Text) → sameBytes a b ≡ true → a ≡ b
+same-is a b e = sameBytes-decides a b .0 e
+
+pub is-same : (a : Text) → sameBytes a a ≡ true
+is-same a = sameBytes-decides a a .1 refl
+
+-- what is found is called so
+pub seek-is : (t : Text) (xs : List Text) (i : ℕ) → seek (λ x. x) t xs ≡ Some i → getD xs i [] ≡ t
+seek-is t [] i e = some-not-none i _ (sym e)
+seek-is t (x ∷ xs) i e =
+    elim (cases-bool (sameBytes x t)) [
+      | inl first ↦ (let z : Some 0 ≡ Some i = sym (cond-true (sameBytes x t) (Some 0) (mapped suc (seek (λ x. x) t xs)) first) ∙ e in let h : 0 ≡ i = cc in ap (λ k. getD (x ∷ xs) k []) (sym h) ∙ same-is x t first)
+      | inr first ↦ later (seek (λ x. x) t xs) i (seek-is t xs) (sym (cond-false (sameBytes x t) (Some 0) (mapped suc (seek (λ x. x) t xs)) first) ∙ e)
+    ]
+  where
+    later : (o : Option ℕ) (i : ℕ) → ((j : ℕ) → o ≡ Some j → getD xs j [] ≡ t) → mapped suc o ≡ Some i → getD (x ∷ xs) i [] ≡ t
+    later None i rest e = some-not-none i _ (sym e)
+    later (Some j) i rest e = let h : suc j ≡ i = cc in ap (λ k. getD (x ∷ xs) k []) (sym h) ∙ rest j refl
 
 -- a lookup through a map
 pub seek-map : {X Y : Type 0} (called : Y → Text) (f : X → Y) (t : Text) (xs : List X) → seek called t (map f xs) ≡ seek (λ x. called (f x)) t xs

@@ -77,7 +77,7 @@ module _ (p : Parts) where
   with-instance v n e = same-content (titleOf (p .title)) (ap (map textOf) e ∙ map-push textOf (vec-items (p .instances)) n) refl refl
 
   pub with-message : (v : Vec Message Global) (w : Vec Event Global) (m : Message) (k : MessageId) → vec-items v ≡ vec-items (p .messages) ++ m ∷ [] → vec-items w ≡ vec-items (p .events) ++ Out k ∷ [] → k .0 ≡ vec-len (p .messages)
-    → contentOf (lining v w) ≡ withMessage (contentOf p) (textOf (m .name)) (m .sender .0) (m .receiver .0)
+      → contentOf (lining v w) ≡ withMessage (contentOf p) (textOf (m .name)) (m .sender .0) (m .receiver .0)
   with-message v w m k e f number =
       same-content (titleOf (p .title)) refl
       (ap (map post) e ∙ map-push post (vec-items (p .messages)) m)

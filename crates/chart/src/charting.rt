@@ -6,7 +6,9 @@ ghost use Rattle.std.specs.Of.Vec.{vec-len};
 ghost use Rattle.std.specs.Options.{isSome};
 ghost use Rattle.chart.specs.Content.{InstancesApart, MessagesApart, AllJoin, Numbered, AllSent, AllReceived, SentOnce, SentFirst, Inside};
 ghost use Rattle.chart.specs.Shown.{contentOf};
+
 pub mod asking;
+
 use super::pieces::Parts;
 
 // A chart place: blank, or a chart that was accepted. No later call tests again what its ghost fields say.

@@ -6,13 +6,17 @@ ghost use Rattle.std.specs.Of.Vec.{vec-cap, vec-len};
 ghost use Rattle.std.specs.Options.{isSome};
 ghost use Rattle.chart.specs.Content.{InstancesApart, MessagesApart, AllJoin, Numbered, AllSent, NoneTwice};
 ghost use Rattle.chart.specs.Shown.{contentOf};
-pub mod growing;
+
 pub mod consulting;
 pub mod finishing;
+pub mod growing;
+
 use super::pieces::Parts;
 
 pub const INSTANCE_LIMIT: usize = 16;
+
 pub const MESSAGE_LIMIT: usize = 64;
+
 pub const EVENT_LIMIT: usize = 2 * MESSAGE_LIMIT;
 
 // A chart as far as it is drawn: some messages may not be received yet. Its memory is reserved when it is made.
@@ -35,14 +39,14 @@ pub struct Draft {
 }
 
 // Why a name does not join the instances.
-#[derive(Clone, Copy, PartialEq, Eq, Debug)]
+#[derive(Clone, Copy)]
 pub enum InstanceRefusal {
     TooMany,
     NamedTwice,
 }
 
 // Why a message is not sent.
-#[derive(Clone, Copy, PartialEq, Eq, Debug)]
+#[derive(Clone, Copy)]
 pub enum SendRefusal {
     NamedTwice,
     TooMany,
@@ -52,7 +56,7 @@ pub enum SendRefusal {
 }
 
 // Why a message is not received.
-#[derive(Clone, Copy, PartialEq, Eq, Debug)]
+#[derive(Clone, Copy)]
 pub enum ReceiveRefusal {
     NotSent,
     Again,

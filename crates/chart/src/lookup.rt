@@ -9,14 +9,14 @@ use super::pieces::Message;
 use super::words::same_text;
 
 // What bears a name.
-pub trait Named {
+trait Named {
     ghost called: { Self → List ℕ };
 
     fn called(&self) -> &[u8]
         ensures { λ r. ⌜ now r ≡ called (now (self .entry)) ⌝ };
 }
 
-pub impl Named for Name as NameNamed {
+impl Named for Name as NameNamed {
     ghost called = { textOf };
 
     fn called(&self) -> &[u8] {
@@ -24,7 +24,7 @@ pub impl Named for Name as NameNamed {
     }
 }
 
-pub impl Named for Message as MessageNamed {
+impl Named for Message as MessageNamed {
     ghost called = { λ m. textOf (m .name) };
 
     fn called(&self) -> &[u8] {
@@ -33,7 +33,7 @@ pub impl Named for Message as MessageNamed {
 }
 
 // The place of the first item that is called this.
-pub fn find<T: Named>(items: &[T], text: &[u8]) -> Option<usize>
+fn find<T: Named>(items: &[T], text: &[u8]) -> Option<usize>
     ensures { λ r. ⌜ r ≡ seek (T·Named .called) (now (text .entry)) (now (items .entry)) ⌝ }
 {
     for (i, item) in items.iter().enumerate() {
@@ -42,4 +42,16 @@ pub fn find<T: Named>(items: &[T], text: &[u8]) -> Option<usize>
         }
     }
     None
+}
+
+pub(crate) fn find_name(names: &[Name], text: &[u8]) -> Option<usize>
+    ensures { λ r. ⌜ r ≡ seek textOf (now (text .entry)) (now (names .entry)) ⌝ }
+{
+    find(names, text)
+}
+
+pub(crate) fn find_message(messages: &[Message], text: &[u8]) -> Option<usize>
+    ensures { λ r. ⌜ r ≡ seek (λ m. textOf (m .name)) (now (text .entry)) (now (messages .entry)) ⌝ }
+{
+    find(messages, text)
 }

@@ -21,7 +21,7 @@ pub struct Name {
 }
 
 // Why a text is no name.
-#[derive(Clone, Copy, PartialEq, Eq, Debug)]
+#[derive(Clone, Copy)]
 pub enum NameRefusal {
     // It is no word, or one that begins with no letter or is reserved.
     NotAName,

@@ -1,22 +1,19 @@
 // The parts of a chart, with no promise about how they fit together.
 ghost use mathlib.Core.Path.{_≡_};
-ghost use Rattle.chart.specs.Words.{Text};
-ghost use Rattle.chart.specs.Pieces.{messageNumber, sideOf};
+ghost use Rattle.chart.specs.Pieces.{messageNumber};
 use super::names::Name;
 use super::numbers::InstanceId;
 use super::numbers::MessageId;
-use crate::numbers::MessageIdDebug;
-use crate::numbers::MessageIdPartialEq;
 
 // The side of a message that an event is on.
-#[derive(Clone, Copy, PartialEq, Eq, Debug)]
+#[derive(Clone, Copy)]
 pub enum Side {
     Out,
     In,
 }
 
 // An event: a message leaves its sender, or arrives at its receiver.
-#[derive(Clone, Copy, PartialEq, Eq, Debug)]
+#[derive(Clone, Copy)]
 pub enum Event {
     Out(MessageId),
     In(MessageId),
@@ -31,15 +28,6 @@ impl Event {
             Event::In(message) => message,
         }
     }
-
-    pub fn side(self) -> Side
-        ensures { λ r. ⌜ r ≡ sideOf self ⌝ }
-    {
-        match self {
-            Event::Out(_) => Side::Out,
-            Event::In(_) => Side::In,
-        }
-    }
 }
 
 #[derive(Clone, Copy)]
@@ -51,7 +39,7 @@ pub struct Message {
 
 // Names and lines as they are kept; a blank place has no title.
 #[derive(Drop)]
-pub struct Parts {
+pub(crate) struct Parts {
     pub title: Option<Name>,
     pub instances: Vec<Name>,
     pub messages: Vec<Message>,

@@ -3,7 +3,7 @@ ghost use mathlib.Core.Path.{_≡_};
 ghost use Rattle.std.specs.shelf.Text.{sameBytes};
 ghost use Rattle.chart.specs.Words.{isLetter, isWordByte, allOf, reserved, lettered, nameLike};
 
-pub fn is_letter(byte: u8) -> bool
+pub(crate) fn is_letter(byte: u8) -> bool
     ensures { λ r. ⌜ r ≡ isLetter byte ⌝ }
 {
     match byte as char {
@@ -47,7 +47,7 @@ fn begins_with_letter(text: &[u8]) -> bool
     }
 }
 
-pub fn is_reserved(text: &[u8]) -> bool
+pub(crate) fn is_reserved(text: &[u8]) -> bool
     ensures { λ r. ⌜ r ≡ reserved (now (text .entry)) ⌝ }
 {
     same_text(text, b"msc")
@@ -60,7 +60,7 @@ pub fn is_reserved(text: &[u8]) -> bool
 }
 
 // Whether the text is a word that may name something, if it is not too long.
-pub fn is_name_like(text: &[u8]) -> bool
+pub(crate) fn is_name_like(text: &[u8]) -> bool
     ensures { λ r. ⌜ r ≡ nameLike (now (text .entry)) ⌝ }
 {
     all_word_bytes(text) && begins_with_letter(text) && !is_reserved(text)

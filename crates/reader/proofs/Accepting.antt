@@ -106,9 +106,9 @@ name-ok t p u h =
 -- what an event line at instance i adds to a draft, past the instance's name
 pub data Adds (c : Content) (i : ℕ) : List Sign → Content → Type 0 where
   sends : {u v : Text} {r : ℕ} → isName u ≡ true → isName v ≡ true → messageCalled c u ≡ false → length (c .messages) < 64 → seek (λ x. x) v (c .instances) ≡ Some r → (i ≡ r → ⊥)
-    → Adds c i (colonSign ∷ written (codes "out") ∷ written u ∷ written (codes "to") ∷ written v ∷ semicolonSign ∷ []) (withMessage c u i r)
+      → Adds c i (colonSign ∷ written (codes "out") ∷ written u ∷ written (codes "to") ∷ written v ∷ semicolonSign ∷ []) (withMessage c u i r)
   receives : {u v : Text} {m : ℕ} → isName u ≡ true → isName v ≡ true → seek (λ x. x) u (messageNames c) ≡ Some m → ltb 0 (timesReceived c m) ≡ false → receiverOf c m ≡ i → seek (λ x. x) v (c .instances) ≡ Some (senderOf c m)
-    → Adds c i (colonSign ∷ written (codes "in") ∷ written u ∷ written (codes "from") ∷ written v ∷ semicolonSign ∷ []) (withReceipt c m)
+      → Adds c i (colonSign ∷ written (codes "in") ∷ written u ∷ written (codes "from") ∷ written v ∷ semicolonSign ∷ []) (withReceipt c m)
 
 -- a name that was found among the instances
 pub found-ok : (c : Content) (t : Text) (p i : ℕ) → instanceAt c t p ≡ Ok i → (isName t ≡ true) × (seek (λ x. x) t (c .instances) ≡ Some i)
@@ -119,7 +119,7 @@ found-ok c t p i h =
 
 module _ (n : ℕ) (c : Content) where
   out-ok : (s : ℕ) (bs : Text) (d : Content × Text) → outLine n c s bs ≡ Ok d
-    → (u : Text) × (v : Text) × (r : ℕ) × Takes n bs (written u ∷ written (codes "to") ∷ written v ∷ semicolonSign ∷ []) (d .1)
+      → (u : Text) × (v : Text) × (r : ℕ) × Takes n bs (written u ∷ written (codes "to") ∷ written v ∷ semicolonSign ∷ []) (d .1)
       × (isName u ≡ true) × (isName v ≡ true) × (messageCalled c u ≡ false) × (length (c .messages) < 64) × (seek (λ x. x) v (c .instances) ≡ Some r) × (s ≡ r → ⊥) × (d .0 ≡ withMessage c u s r)
   out-ok s bs d h =
       let w₁ = word-ok d (lexeme n bs) _ h in
@@ -132,11 +132,19 @@ module _ (n : ℕ) (c : Content) where
       let name = name-ok (w₁ .0) (w₁ .1) (t₁ .0) (new .0) in
       let other = receiver-ok c s (w₂ .0) (w₂ .1) (t₂ .0) (t₂ .1) in
       let found = found-ok c (w₂ .0) (w₂ .1) (t₂ .0) (other .0) in
-      let result : (withMessage c (t₁ .0) s (t₂ .0), e .0) ≡ d = same-ok _ d (e .2) in
-      (w₁ .0, w₂ .0, t₂ .0,
-       (w₁ .2, takes-then n (left bs) (written (codes "to") ∷ []) (written (w₂ .0) ∷ semicolonSign ∷ []) (k .0) (d .1) (keyword-ok (codes "to") n (left bs) (k .0) (k .1)) (w₂ .2, subst (Takes n (left (k .0)) (semicolonSign ∷ [])) (ap (λ x. x .1) result) (semicolon-read n (left (k .0)) (e .0) (e .1)))),
-       name .1, found .0, ap (messageCalled c) (name .0) ∙ new .1, new .2, found .1, other .1,
-       sym (ap (λ x. x .0) result) ∙ ap (λ u. withMessage c u s (t₂ .0)) (sym (name .0)))
+      let result : (withMessage c (t₁ .0) s (t₂ .0), e .0) ≡ d = same-ok _ d (e .2) in (
+        w₁ .0,
+        w₂ .0,
+        t₂ .0,
+        (w₁ .2, takes-then n (left bs) (written (codes "to") ∷ []) (written (w₂ .0) ∷ semicolonSign ∷ []) (k .0) (d .1) (keyword-ok (codes "to") n (left bs) (k .0) (k .1)) (w₂ .2, subst (Takes n (left (k .0)) (semicolonSign ∷ [])) (ap (λ x. x .1) result) (semicolon-read n (left (k .0)) (e .0) (e .1)))),
+        name .1,
+        found .0,
+        ap (messageCalled c) (name .0) ∙ new .1,
+        new .2,
+        found .1,
+        other .1,
+        sym (ap (λ x. x .0) result) ∙ ap (λ u. withMessage c u s (t₂ .0)) (sym (name .0)),
+      )
 
   sender-ok : (s : ℕ) (t : Text) (p : ℕ) (x : Unit {0}) → senderIs c s t p ≡ Ok x → (isName t ≡ true) × (seek (λ x. x) t (c .instances) ≡ Some s)
   sender-ok s t p x h =
@@ -146,7 +154,7 @@ module _ (n : ℕ) (c : Content) where
       (f .0, f .1 ∙ ap Some (eqb-true (a .0) s (b .0)))
 
   in-ok : (r : ℕ) (bs : Text) (d : Content × Text) → inLine n c r bs ≡ Ok d
-    → (u : Text) × (v : Text) × (m : ℕ) × Takes n bs (written u ∷ written (codes "from") ∷ written v ∷ semicolonSign ∷ []) (d .1)
+      → (u : Text) × (v : Text) × (m : ℕ) × Takes n bs (written u ∷ written (codes "from") ∷ written v ∷ semicolonSign ∷ []) (d .1)
       × (isName u ≡ true) × (isName v ≡ true) × (seek (λ x. x) u (messageNames c) ≡ Some m) × (ltb 0 (timesReceived c m) ≡ false) × (receiverOf c m ≡ r) × (seek (λ x. x) v (c .instances) ≡ Some (senderOf c m)) × (d .0 ≡ withReceipt c m)
   in-ok r bs d h =
       let w₁ = word-ok d (lexeme n bs) _ h in
@@ -158,25 +166,36 @@ module _ (n : ℕ) (c : Content) where
       let sent = sent-message-all c r (w₁ .0) (w₁ .1) (t₁ .0) (t₁ .1) in
       let name = name-ok (w₁ .0) (w₁ .1) (sent .0) (sent .1) in
       let from′ = sender-ok (senderOf c (t₁ .0)) (w₂ .0) (w₂ .1) (t₂ .0) (t₂ .1) in
-      let result : (withReceipt c (t₁ .0), e .0) ≡ d = same-ok _ d (e .2) in
-      (w₁ .0, w₂ .0, t₁ .0,
-       (w₁ .2, takes-then n (left bs) (written (codes "from") ∷ []) (written (w₂ .0) ∷ semicolonSign ∷ []) (k .0) (d .1) (keyword-ok (codes "from") n (left bs) (k .0) (k .1)) (w₂ .2, subst (Takes n (left (k .0)) (semicolonSign ∷ [])) (ap (λ x. x .1) result) (semicolon-read n (left (k .0)) (e .0) (e .1)))),
-       name .1, from′ .0, ap (λ u. seek (λ x. x) u (messageNames c)) (name .0) ∙ sent .2, sent .3, sent .4, from′ .1, sym (ap (λ x. x .0) result))
+      let result : (withReceipt c (t₁ .0), e .0) ≡ d = same-ok _ d (e .2) in (
+        w₁ .0,
+        w₂ .0,
+        t₁ .0,
+        (w₁ .2, takes-then n (left bs) (written (codes "from") ∷ []) (written (w₂ .0) ∷ semicolonSign ∷ []) (k .0) (d .1) (keyword-ok (codes "from") n (left bs) (k .0) (k .1)) (w₂ .2, subst (Takes n (left (k .0)) (semicolonSign ∷ [])) (ap (λ x. x .1) result) (semicolon-read n (left (k .0)) (e .0) (e .1)))),
+        name .1,
+        from′ .0,
+        ap (λ u. seek (λ x. x) u (messageNames c)) (name .0) ∙ sent .2,
+        sent .3,
+        sent .4,
+        from′ .1,
+        sym (ap (λ x. x .0) result),
+      )
 
   pub event-ok : (i : ℕ) (bs : Text) (d : Content × Text) → eventLine n c i bs ≡ Ok d → (ts : List Sign) × Takes n bs ts (d .1) × Adds c i ts (d .0)
   event-ok i bs d h =
       let m = colon-ok d (lexeme n bs) _ h in
       let w = word-ok d (lexeme n (left bs)) _ (m .1) in
       elim (cases-bool (sameBytes (w .0) (codes "out"))) [
-        inl out ↦
-          (let o = out-ok i (left (left bs)) d (sym (cond-true (sameBytes (w .0) (codes "out")) _ _ out) ∙ w .3) in
-           (colonSign ∷ written (codes "out") ∷ written (o .0) ∷ written (codes "to") ∷ written (o .1) ∷ semicolonSign ∷ [],
-            (m .0, (subst (λ (t : Text). Shows (written t) (lexeme n (left bs))) (same-text (w .0) (codes "out") out) (w .2), o .3)),
-            subst (Adds c i _) (sym (o .10)) (sends (o .4) (o .5) (o .6) (o .7) (o .8) (o .9))))
-      | inr other ↦
-          (let b = passes (sameBytes (w .0) (codes "in")) _ _ d (sym (cond-false (sameBytes (w .0) (codes "out")) _ _ other) ∙ w .3) in
-           let o = in-ok i (left (left bs)) d (b .1) in
-           (colonSign ∷ written (codes "in") ∷ written (o .0) ∷ written (codes "from") ∷ written (o .1) ∷ semicolonSign ∷ [],
-            (m .0, (subst (λ (t : Text). Shows (written t) (lexeme n (left bs))) (same-text (w .0) (codes "in") (b .0)) (w .2), o .3)),
-            subst (Adds c i _) (sym (o .10)) (receives (o .4) (o .5) (o .6) (o .7) (o .8) (o .9))))
+        | inl out ↦
+            (let o = out-ok i (left (left bs)) d (sym (cond-true (sameBytes (w .0) (codes "out")) _ _ out) ∙ w .3) in (
+              colonSign ∷ written (codes "out") ∷ written (o .0) ∷ written (codes "to") ∷ written (o .1) ∷ semicolonSign ∷ [],
+              (m .0, (subst (λ (t : Text). Shows (written t) (lexeme n (left bs))) (same-text (w .0) (codes "out") out) (w .2), o .3)),
+              subst (Adds c i _) (sym (o .10)) (sends (o .4) (o .5) (o .6) (o .7) (o .8) (o .9)),
+            ))
+        | inr other ↦
+            (let b = passes (sameBytes (w .0) (codes "in")) _ _ d (sym (cond-false (sameBytes (w .0) (codes "out")) _ _ other) ∙ w .3) in
+            let o = in-ok i (left (left bs)) d (b .1) in (
+              colonSign ∷ written (codes "in") ∷ written (o .0) ∷ written (codes "from") ∷ written (o .1) ∷ semicolonSign ∷ [],
+              (m .0, (subst (λ (t : Text). Shows (written t) (lexeme n (left bs))) (same-text (w .0) (codes "in") (b .0)) (w .2), o .3)),
+              subst (Adds c i _) (sym (o .10)) (receives (o .4) (o .5) (o .6) (o .7) (o .8) (o .9)),
+            ))
       ]

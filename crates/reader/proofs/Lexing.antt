@@ -33,16 +33,16 @@ module _ (p : ℕ → Bool) where
   all-front [] = refl
   all-front (b ∷ bs) =
       elim (cases-bool (p b)) [
-        inl more ↦ ap (allOf p) (front-more b bs more) ∙ and-from _ _ more (all-front bs)
-      | inr none ↦ ap (allOf p) (front-none b bs none)
+        | inl more ↦ ap (allOf p) (front-more b bs more) ∙ and-from _ _ more (all-front bs)
+        | inr none ↦ ap (allOf p) (front-none b bs none)
       ]
 
   past-stops : (bs : Text) → begins p (past p bs) ≡ false
   past-stops [] = refl
   past-stops (b ∷ bs) =
       elim (cases-bool (p b)) [
-        inl more ↦ ap (begins p) (past-more b bs more) ∙ past-stops bs
-      | inr none ↦ ap (begins p) (past-none b bs none) ∙ none
+        | inl more ↦ ap (begins p) (past-more b bs more) ∙ past-stops bs
+        | inr none ↦ ap (begins p) (past-none b bs none) ∙ none
       ]
 
   -- a run ends where a byte follows that does not pass
@@ -100,12 +100,12 @@ no-word q b w = on (eqb b 59) (eqb b 44) (eqb b 58)
 which-mark : (q b m : ℕ) → Shows (mark m) (byMark q b) → (b ≡ m) × (isMark m ≡ true)
 which-mark q b m h =
     elim (cases-bool (eqb b 59)) [
-      inl e ↦ (let s = subst (Shows (mark m)) (cond-true (eqb b 59) (semicolon (b ∷ []) q) _ e) h in (eqb-true b 59 e ∙ sym s, ap isMark s))
-    | inr n₁ ↦ elim (cases-bool (eqb b 44)) [
-        inl e ↦ (let s = subst (Shows (mark m)) (cond-false (eqb b 59) (semicolon (b ∷ []) q) _ n₁ ∙ cond-true (eqb b 44) (comma (b ∷ []) q) _ e) h in (eqb-true b 44 e ∙ sym s, ap isMark s))
-      | inr n₂ ↦ elim (cases-bool (eqb b 58)) [
-          inl e ↦ (let s = subst (Shows (mark m)) (cond-false (eqb b 59) (semicolon (b ∷ []) q) _ n₁ ∙ cond-false (eqb b 44) (comma (b ∷ []) q) _ n₂ ∙ cond-true (eqb b 58) (colon (b ∷ []) q) _ e) h in (eqb-true b 58 e ∙ sym s, ap isMark s))
-        | inr n₃ ↦ absurd (subst (Shows (mark m)) (cond-false (eqb b 59) (semicolon (b ∷ []) q) _ n₁ ∙ cond-false (eqb b 44) (comma (b ∷ []) q) _ n₂ ∙ cond-false (eqb b 58) (colon (b ∷ []) q) _ n₃) h)
+      | inl e ↦ (let s = subst (Shows (mark m)) (cond-true (eqb b 59) (semicolon (b ∷ []) q) _ e) h in (eqb-true b 59 e ∙ sym s, ap isMark s))
+      | inr n₁ ↦ elim (cases-bool (eqb b 44)) [
+        | inl e ↦ (let s = subst (Shows (mark m)) (cond-false (eqb b 59) (semicolon (b ∷ []) q) _ n₁ ∙ cond-true (eqb b 44) (comma (b ∷ []) q) _ e) h in (eqb-true b 44 e ∙ sym s, ap isMark s))
+        | inr n₂ ↦ elim (cases-bool (eqb b 58)) [
+          | inl e ↦ (let s = subst (Shows (mark m)) (cond-false (eqb b 59) (semicolon (b ∷ []) q) _ n₁ ∙ cond-false (eqb b 44) (comma (b ∷ []) q) _ n₂ ∙ cond-true (eqb b 58) (colon (b ∷ []) q) _ e) h in (eqb-true b 58 e ∙ sym s, ap isMark s))
+          | inr n₃ ↦ absurd (subst (Shows (mark m)) (cond-false (eqb b 59) (semicolon (b ∷ []) q) _ n₁ ∙ cond-false (eqb b 44) (comma (b ∷ []) q) _ n₂ ∙ cond-false (eqb b 58) (colon (b ∷ []) q) _ n₃) h)
         ]
       ]
     ]
@@ -115,50 +115,53 @@ word-at : (q : ℕ) (v w : Text) → Shows (written w) (tokenAt q v) → (isWord
 word-at q [] w h = absurd h
 word-at q (b ∷ r) w h =
     elim (cases-bool (isWordByte b)) [
-      inl yes′ ↦
-        (let s : front isWordByte (b ∷ r) ≡ w = subst (Shows (written w)) (cond-true (isWordByte b) (word (front isWordByte (b ∷ r)) q) (byMark q b) yes′) h in
-         let e : beyond (b ∷ r) ≡ past isWordByte (b ∷ r) = cond-true (isWordByte b) (past isWordByte (b ∷ r)) r yes′ in
-         (ap isWord (sym s ∙ front-more isWordByte b r yes′) ∙ and-from _ _ yes′ (all-front isWordByte r),
-          sym (joined-again isWordByte (b ∷ r)) ∙ ap (λ l. l ++ past isWordByte (b ∷ r)) s ∙ ap (λ l. w ++ l) (sym e),
-          ap (begins isWordByte) e ∙ past-stops isWordByte (b ∷ r)))
-    | inr no′ ↦ absurd (no-word q b w (subst (Shows (written w)) (cond-false (isWordByte b) (word (front isWordByte (b ∷ r)) q) (byMark q b) no′) h))
+      | inl yes′ ↦
+          (let s : front isWordByte (b ∷ r) ≡ w = subst (Shows (written w)) (cond-true (isWordByte b) (word (front isWordByte (b ∷ r)) q) (byMark q b) yes′) h in
+          let e : beyond (b ∷ r) ≡ past isWordByte (b ∷ r) = cond-true (isWordByte b) (past isWordByte (b ∷ r)) r yes′ in (
+            ap isWord (sym s ∙ front-more isWordByte b r yes′) ∙ and-from _ _ yes′ (all-front isWordByte r),
+            sym (joined-again isWordByte (b ∷ r)) ∙ ap (λ l. l ++ past isWordByte (b ∷ r)) s ∙ ap (λ l. w ++ l) (sym e),
+            ap (begins isWordByte) e ∙ past-stops isWordByte (b ∷ r),
+          ))
+      | inr no′ ↦ absurd (no-word q b w (subst (Shows (written w)) (cond-false (isWordByte b) (word (front isWordByte (b ∷ r)) q) (byMark q b) no′) h))
     ]
 
 mark-at : (q m : ℕ) (v : Text) → Shows (mark m) (tokenAt q v) → (isMark m ≡ true) × (v ≡ m ∷ beyond v)
 mark-at q m [] h = absurd h
 mark-at q m (b ∷ r) h =
     elim (cases-bool (isWordByte b)) [
-      inl yes′ ↦ absurd (subst (Shows (mark m)) (cond-true (isWordByte b) (word (front isWordByte (b ∷ r)) q) (byMark q b) yes′) h)
-    | inr no′ ↦
-        (let s = which-mark q b m (subst (Shows (mark m)) (cond-false (isWordByte b) (word (front isWordByte (b ∷ r)) q) (byMark q b) no′) h) in
-         (s .1, ap (λ x. x ∷ r) (s .0) ∙ ap (λ l. m ∷ l) (sym (cond-false (isWordByte b) (past isWordByte (b ∷ r)) r no′))))
+      | inl yes′ ↦ absurd (subst (Shows (mark m)) (cond-true (isWordByte b) (word (front isWordByte (b ∷ r)) q) (byMark q b) yes′) h)
+      | inr no′ ↦
+          (let s = which-mark q b m (subst (Shows (mark m)) (cond-false (isWordByte b) (word (front isWordByte (b ∷ r)) q) (byMark q b) no′) h) in
+          (s .1, ap (λ x. x ∷ r) (s .0) ∙ ap (λ l. m ∷ l) (sym (cond-false (isWordByte b) (past isWordByte (b ∷ r)) r no′))))
     ]
 
 -- and the other way round
 at-word : (q : ℕ) (w rest : Text) → isWord w ≡ true → begins isWordByte rest ≡ false → Shows (written w) (tokenAt q (w ++ rest)) × (beyond (w ++ rest) ≡ rest) × (begins isBlank (w ++ rest) ≡ false)
 at-word q [] rest good stop = let z : _≡_ {A = Bool} true false = sym good in absurd (let o : _≡_ {A = ℕ} 0 1 = cc in omega arith)
 at-word q (b ∷ w) rest good stop =
-    let first = and-parts (isWordByte b) (allOf isWordByte w) good .0 in
-    (subst (Shows (written (b ∷ w))) (sym (cond-true (isWordByte b) (word (front isWordByte (b ∷ (w ++ rest))) q) (byMark q b) first)) (run-front isWordByte (b ∷ w) rest good stop),
-     cond-true (isWordByte b) (past isWordByte (b ∷ (w ++ rest))) (w ++ rest) first ∙ run-past isWordByte (b ∷ w) rest good stop,
-     word-not-blank b first)
+    let first = and-parts (isWordByte b) (allOf isWordByte w) good .0 in (
+      subst (Shows (written (b ∷ w))) (sym (cond-true (isWordByte b) (word (front isWordByte (b ∷ (w ++ rest))) q) (byMark q b) first)) (run-front isWordByte (b ∷ w) rest good stop),
+      cond-true (isWordByte b) (past isWordByte (b ∷ (w ++ rest))) (w ++ rest) first ∙ run-past isWordByte (b ∷ w) rest good stop,
+      word-not-blank b first,
+    )
 
 by-mark : (q m : ℕ) → isMark m ≡ true → Shows (mark m) (byMark q m)
 by-mark q m good =
     ⊎-elim
     (λ (e : eqb m 59 ≡ true). subst (Shows (mark m)) (sym (cond-true (eqb m 59) (semicolon (m ∷ []) q) _ e)) (eqb-true m 59 e))
     (λ (o : (eqb m 44 || eqb m 58) ≡ true). ⊎-elim
-        (λ (e : eqb m 44 ≡ true). subst (Shows (mark m)) (sym (cond-false (eqb m 59) (semicolon (m ∷ []) q) _ (grind (arith, tells)) ∙ cond-true (eqb m 44) (comma (m ∷ []) q) _ e)) (eqb-true m 44 e))
-        (λ (e : eqb m 58 ≡ true). subst (Shows (mark m)) (sym (cond-false (eqb m 59) (semicolon (m ∷ []) q) _ (grind (arith, tells)) ∙ cond-false (eqb m 44) (comma (m ∷ []) q) _ (grind (arith, tells)) ∙ cond-true (eqb m 58) (colon (m ∷ []) q) _ e)) (eqb-true m 58 e))
-        (or-cases (eqb m 44) (eqb m 58) o))
+    (λ (e : eqb m 44 ≡ true). subst (Shows (mark m)) (sym (cond-false (eqb m 59) (semicolon (m ∷ []) q) _ (grind (arith, tells)) ∙ cond-true (eqb m 44) (comma (m ∷ []) q) _ e)) (eqb-true m 44 e))
+    (λ (e : eqb m 58 ≡ true). subst (Shows (mark m)) (sym (cond-false (eqb m 59) (semicolon (m ∷ []) q) _ (grind (arith, tells)) ∙ cond-false (eqb m 44) (comma (m ∷ []) q) _ (grind (arith, tells)) ∙ cond-true (eqb m 58) (colon (m ∷ []) q) _ e)) (eqb-true m 58 e))
+    (or-cases (eqb m 44) (eqb m 58) o))
     (or-cases (eqb m 59) (eqb m 44 || eqb m 58) good)
 
 at-mark : (q m : ℕ) (rest : Text) → isMark m ≡ true → Shows (mark m) (tokenAt q (m ∷ rest)) × (beyond (m ∷ rest) ≡ rest) × (begins isBlank (m ∷ rest) ≡ false)
 at-mark q m rest good =
-    let other = mark-not-word m good in
-    (subst (Shows (mark m)) (sym (cond-false (isWordByte m) (word (front isWordByte (m ∷ rest)) q) (byMark q m) other)) (by-mark q m good),
-     cond-false (isWordByte m) (past isWordByte (m ∷ rest)) rest other,
-     mark-not-blank m good)
+    let other = mark-not-word m good in (
+      subst (Shows (mark m)) (sym (cond-false (isWordByte m) (word (front isWordByte (m ∷ rest)) q) (byMark q m) other)) (by-mark q m good),
+      cond-false (isWordByte m) (past isWordByte (m ∷ rest)) rest other,
+      mark-not-blank m good,
+    )
 
 abbrev Ended : Lexeme → Type 0
 Ended (word t p) = ⊥

@@ -53,45 +53,45 @@ Took part n c bs (ended d p r) = (c ≡ d) × Takes n bs (lastSign part ∷ []) 
 listed-ok : (c : Content) (u : Text) (p : ℕ) (d : Content) → listedBy p (listed c u) ≡ Ok d → (length (c .instances) < 16) × (among u (c .instances) ≡ false) × (withInstance c u ≡ d)
 listed-ok c u p d h =
     elim (cases-bool (leb 16 (length (c .instances)))) [
-      inl many ↦ refused _ d _ (sym (ap (listedBy p) (cond-true (leb 16 (length (c .instances))) (Err instance.TooMany) (cond (among u (c .instances)) (Err instance.NamedTwice) (Ok (withInstance c u))) many)) ∙ h)
-    | inr few ↦ elim (cases-bool (among u (c .instances))) [
-        inl twice ↦ refused _ d _ (sym (ap (listedBy p) (cond-false (leb 16 (length (c .instances))) (Err instance.TooMany) (cond (among u (c .instances)) (Err instance.NamedTwice) (Ok (withInstance c u))) few ∙ cond-true (among u (c .instances)) (Err instance.NamedTwice) (Ok (withInstance c u)) twice)) ∙ h)
-      | inr new ↦ (leb-false 16 _ few, new, same-ok _ d (sym (ap (listedBy p) (cond-false (leb 16 (length (c .instances))) (Err instance.TooMany) (cond (among u (c .instances)) (Err instance.NamedTwice) (Ok (withInstance c u))) few ∙ cond-false (among u (c .instances)) (Err instance.NamedTwice) (Ok (withInstance c u)) new)) ∙ h))
+      | inl many ↦ refused _ d _ (sym (ap (listedBy p) (cond-true (leb 16 (length (c .instances))) (Err instance.TooMany) (cond (among u (c .instances)) (Err instance.NamedTwice) (Ok (withInstance c u))) many)) ∙ h)
+      | inr few ↦ elim (cases-bool (among u (c .instances))) [
+        | inl twice ↦ refused _ d _ (sym (ap (listedBy p) (cond-false (leb 16 (length (c .instances))) (Err instance.TooMany) (cond (among u (c .instances)) (Err instance.NamedTwice) (Ok (withInstance c u))) few ∙ cond-true (among u (c .instances)) (Err instance.NamedTwice) (Ok (withInstance c u)) twice)) ∙ h)
+        | inr new ↦ (leb-false 16 _ few, new, same-ok _ d (sym (ap (listedBy p) (cond-false (leb 16 (length (c .instances))) (Err instance.TooMany) (cond (among u (c .instances)) (Err instance.NamedTwice) (Ok (withInstance c u))) few ∙ cond-false (among u (c .instances)) (Err instance.NamedTwice) (Ok (withInstance c u)) new)) ∙ h))
       ]
     ]
 
 instance-took : (n : ℕ) (c : Content) (bs : Text) (s : Step) → instanceStep n c bs ≡ Ok s → Took Instances n c bs s
 instance-took n c bs s h =
     elim (list-ok s (lexeme n bs) _ _ h) [
-      inl a ↦
-        (let w = word-ok s (lexeme n (left bs)) _ (a .1) in
-         let f = then-ok (furtherAt c (w .0) (w .1)) _ s (w .3) in
-         let g = then-ok (nameAt (w .0) (w .1)) _ (f .0) (f .1) in
-         let name = name-ok (w .0) (w .1) (g .0) (g .1) in
-         let l = listed-ok c (g .0) (w .1) (f .0) (g .2) in
-         subst (Took Instances n c bs) (same-ok _ s (f .2))
-         (commaSign ∷ written (w .0) ∷ [], (a .0, (w .2, refl)), subst (Moves c Instances _) (ap (withInstance c) (name .0) ∙ l .2) (lists (name .1) (l .0) (ap (λ u. among u (c .instances)) (name .0) ∙ l .1))))
-    | inr a ↦ subst (Took Instances n c bs) (same-ok _ s (a .1)) (refl, (a .0, refl))
+      | inl a ↦
+          (let w = word-ok s (lexeme n (left bs)) _ (a .1) in
+          let f = then-ok (furtherAt c (w .0) (w .1)) _ s (w .3) in
+          let g = then-ok (nameAt (w .0) (w .1)) _ (f .0) (f .1) in
+          let name = name-ok (w .0) (w .1) (g .0) (g .1) in
+          let l = listed-ok c (g .0) (w .1) (f .0) (g .2) in
+          subst (Took Instances n c bs) (same-ok _ s (f .2))
+          (commaSign ∷ written (w .0) ∷ [], (a .0, (w .2, refl)), subst (Moves c Instances _) (ap (withInstance c) (name .0) ∙ l .2) (lists (name .1) (l .0) (ap (λ u. among u (c .instances)) (name .0) ∙ l .1))))
+      | inr a ↦ subst (Took Instances n c bs) (same-ok _ s (a .1)) (refl, (a .0, refl))
     ]
 
 line-took : (n : ℕ) (c : Content) (bs : Text) (s : Step) → lineStep n c bs ≡ Ok s → Took Lines n c bs s
 line-took n c bs s h =
     let w = word-ok s (lexeme n bs) _ h in
     elim (cases-bool (sameBytes (w .0) (codes "endmsc"))) [
-      inl last ↦ subst (Took Lines n c bs) (same-ok _ s (sym (cond-true (sameBytes (w .0) (codes "endmsc")) _ _ last) ∙ w .3)) (refl, (subst (λ (t : Text). Shows (written t) (lexeme n bs)) (same-text (w .0) (codes "endmsc") last) (w .2), refl))
-    | inr other ↦
-        (let i = then-ok (instanceAt c (w .0) (w .1)) _ s (sym (cond-false (sameBytes (w .0) (codes "endmsc")) _ _ other) ∙ w .3) in
-         let e = then-ok (eventLine n c (i .0) (left bs)) _ s (i .2) in
-         let found = found-ok c (w .0) (w .1) (i .0) (i .1) in
-         let line = event-ok n c (i .0) (left bs) (e .0) (e .1) in
-         subst (Took Lines n c bs) (same-ok _ s (e .2)) (written (w .0) ∷ line .0, (w .2, line .1), draws (found .0) (found .1) (line .2)))
+      | inl last ↦ subst (Took Lines n c bs) (same-ok _ s (sym (cond-true (sameBytes (w .0) (codes "endmsc")) _ _ last) ∙ w .3)) (refl, (subst (λ (t : Text). Shows (written t) (lexeme n bs)) (same-text (w .0) (codes "endmsc") last) (w .2), refl))
+      | inr other ↦
+          (let i = then-ok (instanceAt c (w .0) (w .1)) _ s (sym (cond-false (sameBytes (w .0) (codes "endmsc")) _ _ other) ∙ w .3) in
+          let e = then-ok (eventLine n c (i .0) (left bs)) _ s (i .2) in
+          let found = found-ok c (w .0) (w .1) (i .0) (i .1) in
+          let line = event-ok n c (i .0) (left bs) (e .0) (e .1) in
+          subst (Took Lines n c bs) (same-ok _ s (e .2)) (written (w .0) ∷ line .0, (w .2, line .1), draws (found .0) (found .1) (line .2)))
     ]
 
 pub step-took : (part : Part) (n : ℕ) (c : Content) (bs : Text) (s : Step) → stepOf part n c bs ≡ Ok s → Took part n c bs s
 step-took Instances n c bs s h = instance-took n c bs s h
 step-took Lines n c bs s h = line-took n c bs s h
 
-some-tokens : {c d : Content} {part : Part} {ts : List Sign} → Moves c part ts d → 0 < length ts
+pub some-tokens : {c d : Content} {part : Part} {ts : List Sign} → Moves c part ts d → 0 < length ts
 some-tokens (lists a b e) = omega arith
 some-tokens (draws a b e) = omega arith
 

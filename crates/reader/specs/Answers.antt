@@ -1,5 +1,6 @@
 -- What the code answers, without its references.
 use mathlib.Core.Path.{_≡_}
+use mathlib.Core.Logic.{_↔_}
 use Prim.Native.Nat.{ℕ}
 use denote.Ref.{RefT}
 use Rattle.std.specs.declared.result.Result.{Result}
@@ -12,7 +13,8 @@ use Rattle.chart.specs.declared.charting.Chart.{Chart}
 use Rattle.chart.specs.declared.names.Name.{Name}
 use Rattle.chart.specs.declared.numbers.InstanceId.{InstanceId}
 use Rattle.chart.specs.declared.drafting.consulting.Sent.{Sent}
-use Rattle.reader.specs.Reading.{Outcome, Step, more, ended}
+use Rattle.reader.specs.Reading.{Outcome, Step, more, ended, reading}
+use Rattle.reader.specs.Meaning.{TextOf}
 use Rattle.reader.specs.declared.steps.Step.{Step as Step′}
 use Rattle.reader.specs.declared.steps.Step.the-variants.{More, Ended}
 use Rattle.reader.specs.declared.refusals.Refusal.{Refusal}
@@ -58,6 +60,10 @@ abbrev pub partRead : Outcome (ℕ × RefT Text) → Content → Outcome (Conten
 partRead (Ok p) c = Ok (c, p .0, p .1 .now)
 partRead (Err e) c = Err e
 
+abbrev pub contentRead : Outcome Chart → Outcome Content
+contentRead (Ok chart) = Ok (content chart)
+contentRead (Err e) = Err e
+
 -- a chart as the reading gives it; nothing is said of a want of memory
 abbrev pub ChartRead : Result Chart ReadError → Outcome Content → Type 0
 ChartRead (Ok chart) s = s ≡ Ok (content chart)
@@ -69,3 +75,18 @@ abbrev pub PlaceRead : Result (Unit {0}) ReadError → Content → Outcome Conte
 PlaceRead (Ok u) c s = s ≡ Ok c
 PlaceRead (Err (Refused e)) c s = s ≡ Err e
 PlaceRead (Err OutOfMemory) c s = Unit {0}
+
+-- the text is that of the chart c, and of no other
+pub record Means (bs : Text) (c : Content) : Type 0 where
+  pub is-text : TextOf c bs
+  pub only : (d : Content) → TextOf d bs → d ≡ c
+
+-- a place that was filled holds the one chart whose text it is; a refused text is that of no chart
+abbrev pub PlaceMeans : Result (Unit {0}) ReadError → Content → Text → Type 0
+PlaceMeans (Ok u) c bs = Means bs c
+PlaceMeans (Err (Refused e)) c bs = (d : Content) → TextOf d bs → ⊥
+PlaceMeans (Err OutOfMemory) c bs = Unit {0}
+
+-- reading from left to right accepts the texts of charts, each with its chart, and no others
+abbrev pub ReadsTexts : Text → Type 0
+ReadsTexts bs = (c : Content) → (reading bs ≡ Ok c) ↔ TextOf c bs

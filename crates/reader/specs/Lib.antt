@@ -1,5 +1,5 @@
 pub mod Lexemes
 pub mod Refusals
 pub mod Reading
-pub mod Answers
 pub mod Meaning
+pub mod Answers

@@ -190,21 +190,32 @@ abbrev pub stepsFrom : Part → ℕ → ℕ → Content → Text → Outcome (Co
 stepsFrom part zero n c bs = Err TextTooLong
 stepsFrom part (suc f) n c bs = then (stepOf part n c bs) (goOn (stepsFrom part f n))
 
+abbrev pub partFrom : Part → ℕ → Content → Text → Outcome (Content × ℕ × Text)
+partFrom part n c bs = stepsFrom part (suc (length bs)) n c bs
+
 -- past `endmsc`: a semicolon, and then blanks only
 abbrev pub ending : ℕ → Text → Outcome (Unit {0})
 ending n bs = then (semicolonFrom n bs) (λ bs₁. onEnd (lexeme n bs₁) (Ok tt))
 
--- `msc` title `;` `inst` first name, further names, event lines, `endmsc` `;`
+-- past the first name of the list: further names, event lines, `endmsc` `;`
+abbrev pub bodyFrom : ℕ → Content → Text → Outcome Content
+bodyFrom n c bs =
+    then (partFrom Instances n c bs) (λ i.
+    then (partFrom Lines n (i .0) (i .2)) (λ l.
+    cond (allReceived (l .0)) (then (ending n (l .2)) (λ _. Ok (l .0))) (Err (NotReceived (l .1)))))
+
+-- past the title line: `inst`, the first name of the list, and the rest
+abbrev pub listFrom : ℕ → Text → Text → Outcome Content
+listFrom n title bs =
+    then (keywordFrom (codes "inst") n bs) (λ bs₁.
+    onWord (lexeme n bs₁) (λ t p. then (nameAt t p) (λ first. bodyFrom n (begun title first) (left bs₁))))
+
+-- `msc` title `;`, and the rest
 abbrev pub chartFrom : ℕ → Text → Outcome Content
 chartFrom n bs =
     then (keywordFrom (codes "msc") n bs) (λ bs₁.
-    onWord (lexeme n bs₁) (λ t₁ p₁. then (nameAt t₁ p₁) (λ title.
-    then (semicolonFrom n (left bs₁)) (λ bs₂.
-    then (keywordFrom (codes "inst") n bs₂) (λ bs₃.
-    onWord (lexeme n bs₃) (λ t₃ p₃. then (nameAt t₃ p₃) (λ first.
-    then (stepsFrom Instances (suc n) n (begun title first) (left bs₃)) (λ i.
-    then (stepsFrom Lines (suc n) n (i .0) (i .2)) (λ l.
-    cond (allReceived (l .0)) (then (ending n (l .2)) (λ _. Ok (l .0))) (Err (NotReceived (l .1)))))))))))) 
+    onWord (lexeme n bs₁) (λ t p. then (nameAt t p) (λ title.
+    then (semicolonFrom n (left bs₁)) (listFrom n title))))
 
 -- the chart that a text gives, or why it comes back
 abbrev pub reading : Text → Outcome Content

@@ -11,16 +11,16 @@ ghost use Rattle.reader.specs.Lexemes.{seen, placeOf};
 ghost use Rattle.reader.specs.Reading.{keywordFrom, semicolonFrom, noName, nameAt, instanceAt, furtherAt, newMessageAt, receiverAt, sentMessageAt, senderIs, outLine, inLine, eventLine};
 ghost use Rattle.reader.specs.declared.refusals.Refusal.the-variants.{Unexpected};
 use super::refusals::Refusal;
-use super::tokens::next_token;
 use super::tokens::Token;
-use chart::drafting::consulting::Sent;
+use super::tokens::next_token;
 use chart::drafting::Draft;
 use chart::drafting::InstanceRefusal;
+use chart::drafting::consulting::Sent;
 use chart::names::Name;
 use chart::names::NameRefusal;
 use chart::numbers::InstanceId;
-use chart::words::same_text;
 use chart::numbers::InstanceIdPartialEq;
+use chart::words::same_text;
 
 pub(crate) fn unwanted(token: &Token<'_>) -> Refusal
     ensures { λ r. ⌜ r ≡ Unexpected (placeOf (seen (now (token .entry)))) ⌝ }
@@ -116,7 +116,12 @@ fn new_message(draft: &Draft, word: &[u8], at: usize) -> Result<Name, Refusal>
 }
 
 // An out line's receiver.
-fn receiver(draft: &Draft, sender: InstanceId, word: &[u8], at: usize) -> Result<InstanceId, Refusal>
+fn receiver(
+    draft: &Draft,
+    sender: InstanceId,
+    word: &[u8],
+    at: usize,
+) -> Result<InstanceId, Refusal>
     ensures { λ r. ⌜ instanceRead r ≡ receiverAt (drafted (now (draft .entry))) (sender .0) (now (word .entry)) at ⌝ }
 {
     let receiver = instance_at(draft, word, at)?;
@@ -127,7 +132,12 @@ fn receiver(draft: &Draft, sender: InstanceId, word: &[u8], at: usize) -> Result
 }
 
 // An in line's message, which was sent to this receiver and not received before.
-fn sent_message(draft: &Draft, receiver: InstanceId, word: &[u8], at: usize) -> Result<Sent, Refusal>
+fn sent_message(
+    draft: &Draft,
+    receiver: InstanceId,
+    word: &[u8],
+    at: usize,
+) -> Result<Sent, Refusal>
     ensures number { λ r. ⌜ messageRead r ≡ sentMessageAt (drafted (now (draft .entry))) (receiver .0) (now (word .entry)) at ⌝ }
     ensures sender { λ r. ⌜ made r (λ m. m .sender .0 ≡ senderOf (drafted (now (draft .entry))) (m .number .0)) ⌝ }
 {
@@ -152,7 +162,12 @@ fn check_sender(draft: &Draft, sender: InstanceId, word: &[u8], at: usize) -> Re
 }
 
 // The rest of an out line, past `out`.
-fn out_line<'a>(draft: &mut Draft, sender: InstanceId, rest: &'a [u8], whole: usize) -> Result<&'a [u8], Refusal>
+fn out_line<'a>(
+    draft: &mut Draft,
+    sender: InstanceId,
+    rest: &'a [u8],
+    whole: usize,
+) -> Result<&'a [u8], Refusal>
     requires { ⌜ sender .0 < length (drafted (now draft) .instances) ⌝ }
     ensures { λ r. ⌜ lineRead r (drafted (now (draft .exit))) ≡ outLine whole (drafted (now (draft .entry))) (sender .0) (now (rest .entry)) ⌝ }
 {
@@ -175,7 +190,12 @@ fn out_line<'a>(draft: &mut Draft, sender: InstanceId, rest: &'a [u8], whole: us
 }
 
 // The rest of an in line, past `in`.
-fn in_line<'a>(draft: &mut Draft, receiver: InstanceId, rest: &'a [u8], whole: usize) -> Result<&'a [u8], Refusal>
+fn in_line<'a>(
+    draft: &mut Draft,
+    receiver: InstanceId,
+    rest: &'a [u8],
+    whole: usize,
+) -> Result<&'a [u8], Refusal>
     ensures { λ r. ⌜ lineRead r (drafted (now (draft .exit))) ≡ inLine whole (drafted (now (draft .entry))) (receiver .0) (now (rest .entry)) ⌝ }
 {
     let (token, rest) = next_token(rest, whole);
@@ -197,7 +217,12 @@ fn in_line<'a>(draft: &mut Draft, receiver: InstanceId, rest: &'a [u8], whole: u
 }
 
 // The rest of an event line, past the name of its instance.
-pub(crate) fn event_line<'a>(draft: &mut Draft, instance: InstanceId, rest: &'a [u8], whole: usize) -> Result<&'a [u8], Refusal>
+pub(crate) fn event_line<'a>(
+    draft: &mut Draft,
+    instance: InstanceId,
+    rest: &'a [u8],
+    whole: usize,
+) -> Result<&'a [u8], Refusal>
     requires { ⌜ instance .0 < length (drafted (now draft) .instances) ⌝ }
     ensures { λ r. ⌜ lineRead r (drafted (now (draft .exit))) ≡ eventLine whole (drafted (now (draft .entry))) (instance .0) (now (rest .entry)) ⌝ }
 {

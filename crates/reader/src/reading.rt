@@ -1,25 +1,28 @@
 // Reading a whole chart text into a chart place.
 ghost use mathlib.Core.Path.{_≡_};
 ghost use Rattle.std.specs.Vec.{refused};
+ghost use Rattle.chart.specs.Drafted.{drafted};
+ghost use Rattle.chart.specs.Names.{textOf};
 ghost use Rattle.chart.specs.Charted.{content};
-ghost use Rattle.reader.specs.Answers.{ChartRead, PlaceRead};
-ghost use Rattle.reader.specs.Reading.{reading, ending};
+ghost use Rattle.reader.specs.Answers.{contentRead, ChartRead, PlaceRead, PlaceMeans, ReadsTexts};
+ghost use Rattle.reader.specs.Reading.{reading, listFrom, bodyFrom, ending};
 ghost use Rattle.reader.specs.declared.reading.ReadError.the-variants.{Refused, OutOfMemory};
 use super::lines::keyword;
 use super::lines::name_at;
 use super::lines::semicolon;
 use super::lines::unwanted;
 use super::refusals::Refusal;
-use super::steps::whole_part;
 use super::steps::Part;
-use super::tokens::next_token;
+use super::steps::whole_part;
 use super::tokens::Token;
-use chart::charting::Chart;
-use chart::drafting::Draft;
-use std::alloc::AllocError;
-use std::alloc::Global;
+use super::tokens::next_token;
 use crate::refusals::RefusalDebug;
 use crate::refusals::RefusalPartialEq;
+use chart::charting::Chart;
+use chart::drafting::Draft;
+use chart::names::Name;
+use std::alloc::AllocError;
+use std::alloc::Global;
 
 // The longest text that is read, in bytes.
 pub const TEXT_LIMIT: usize = 16_384;
@@ -59,6 +62,35 @@ fn closing(rest: &[u8], whole: usize) -> Result<(), Refusal>
     Ok(())
 }
 
+// Past the first name of the list: the other instances, the lines, and the end.
+fn read_body(draft: Draft, rest: &[u8], whole: usize) -> Result<Chart, Refusal>
+    ensures { λ r. ⌜ contentRead r ≡ bodyFrom whole (drafted draft) (now (rest .entry)) ⌝ }
+{
+    let mut draft = draft;
+    let (_, rest) = whole_part(Part::Instances, &mut draft, rest, whole)?;
+    let (at, rest) = whole_part(Part::Lines, &mut draft, rest, whole)?;
+    let Some(chart) = draft.finish() else {
+        return Err(Refusal::NotReceived { at });
+    };
+    closing(rest, whole)?;
+    Ok(chart)
+}
+
+// Past the title line.
+fn read_list(heap: Global, title: Name, rest: &[u8], whole: usize) -> Result<Chart, ReadError>
+    ensures { λ r. ⌜ ChartRead r (listFrom whole (textOf title) (now (rest .entry))) ⌝ }
+{
+    let rest = keyword(rest, whole, b"inst")?;
+    let (token, rest) = next_token(rest, whole);
+    let Token::Word(word, at) = token else {
+        return Err(ReadError::Refused(unwanted(&token)));
+    };
+    let first = name_at(word, at)?;
+    let draft = Draft::new(heap, title, first)?;
+    let chart = read_body(draft, rest, whole)?;
+    Ok(chart)
+}
+
 fn read_chart(heap: Global, text: &[u8]) -> Result<Chart, ReadError>
     ensures { λ r. ⌜ ChartRead r (reading (now (text .entry))) ⌝ }
 {
@@ -73,28 +105,21 @@ fn read_chart(heap: Global, text: &[u8]) -> Result<Chart, ReadError>
     };
     let title = name_at(word, at)?;
     let rest = semicolon(rest, whole)?;
-    let rest = keyword(rest, whole, b"inst")?;
-    let (token, rest) = next_token(rest, whole);
-    let Token::Word(word, at) = token else {
-        return Err(ReadError::Refused(unwanted(&token)));
-    };
-    let first = name_at(word, at)?;
-    let mut draft = Draft::new(heap, title, first)?;
-    let (_, rest) = whole_part(Part::Instances, &mut draft, rest, whole)?;
-    let (at, rest) = whole_part(Part::Lines, &mut draft, rest, whole)?;
-    let Some(chart) = draft.finish() else {
-        return Err(ReadError::Refused(Refusal::NotReceived { at }));
-    };
-    closing(rest, whole)?;
-    Ok(chart)
+    read_list(heap, title, rest, whole)
 }
 
 // Fills the place with the chart of the text, or says why not and leaves it as it was.
 pub fn read(place: &mut Chart, text: &[u8]) -> Result<(), ReadError>
     ensures answer { λ r. ⌜ PlaceRead r (content (now (place .exit))) (reading (now (text .entry))) ⌝ }
     ensures unchanged { λ r. ⌜ refused r (λ _. now (place .exit) ≡ now (place .entry)) ⌝ }
+    ensures meaning { λ r. ⌜ PlaceMeans r (content (now (place .exit))) (now (text .entry)) ⌝ }
+    ensures exact { λ _. ⌜ ReadsTexts (now (text .entry)) ⌝ }
 {
-    let chart = read_chart(place.allocator(), text)?;
-    *place = chart;
-    Ok(())
+    match read_chart(place.allocator(), text) {
+        Ok(chart) => {
+            *place = chart;
+            Ok(())
+        }
+        Err(error) => Err(error),
+    }
 }

@@ -1,17 +1,15 @@
 // The parts of a chart text that repeat: the list of instances, and the event lines.
 ghost use mathlib.Core.Path.{_≡_};
-ghost use Prim.Native.Nat.{suc, _≤_};
-ghost use lib.ListN.{length};
 ghost use Rattle.chart.specs.Drafted.{drafted};
 ghost use Rattle.reader.specs.Answers.{stepRead, partRead};
-ghost use Rattle.reader.specs.Reading.{instanceStep, lineStep, stepOf, stepsFrom};
+ghost use Rattle.reader.specs.Reading.{instanceStep, lineStep, stepOf, partFrom};
 use super::lines::event_line;
 use super::lines::further_instance;
 use super::lines::instance_at;
 use super::lines::unwanted;
 use super::refusals::Refusal;
-use super::tokens::next_token;
 use super::tokens::Token;
+use super::tokens::next_token;
 use chart::drafting::Draft;
 use chart::words::same_text;
 
@@ -63,7 +61,12 @@ fn next_line<'a>(draft: &mut Draft, rest: &'a [u8], whole: usize) -> Result<Step
     Ok(Step::More(rest))
 }
 
-fn next_step<'a>(part: Part, draft: &mut Draft, rest: &'a [u8], whole: usize) -> Result<Step<'a>, Refusal>
+fn next_step<'a>(
+    part: Part,
+    draft: &mut Draft,
+    rest: &'a [u8],
+    whole: usize,
+) -> Result<Step<'a>, Refusal>
     ensures { λ r. ⌜ stepRead r (drafted (now (draft .exit))) ≡ stepOf part whole (drafted (now (draft .entry))) (now (rest .entry)) ⌝ }
 {
     match part {
@@ -73,9 +76,13 @@ fn next_step<'a>(part: Part, draft: &mut Draft, rest: &'a [u8], whole: usize) ->
 }
 
 // A part to its end: the place where it ended, and what is left.
-pub(crate) fn whole_part<'a>(part: Part, draft: &mut Draft, rest: &'a [u8], whole: usize) -> Result<(usize, &'a [u8]), Refusal>
-    requires { ⌜ length (now rest) ≤ whole ⌝ }
-    ensures { λ r. ⌜ partRead r (drafted (now (draft .exit))) ≡ stepsFrom part (suc whole) whole (drafted (now (draft .entry))) (now (rest .entry)) ⌝ }
+pub(crate) fn whole_part<'a>(
+    part: Part,
+    draft: &mut Draft,
+    rest: &'a [u8],
+    whole: usize,
+) -> Result<(usize, &'a [u8]), Refusal>
+    ensures { λ r. ⌜ partRead r (drafted (now (draft .exit))) ≡ partFrom part whole (drafted (now (draft .entry))) (now (rest .entry)) ⌝ }
 {
     let mut unread = rest;
     loop {

@@ -4,7 +4,6 @@ ghost use mathlib.Core.List.{[]};
 ghost use Rattle.std.specs.Of.Vec.{vec-items, vec-heap};
 ghost use Rattle.chart.specs.Charted.{content, lineOf};
 ghost use Rattle.chart.specs.Content.{nothing};
-use super::Chart;
 use super::super::names::Name;
 use super::super::numbers::EventId;
 use super::super::numbers::InstanceId;
@@ -13,6 +12,7 @@ use super::super::pieces::Event;
 use super::super::pieces::Message;
 use super::super::pieces::Parts;
 use super::super::pieces::Side;
+use super::Chart;
 use std::alloc::Global;
 
 // An event as it is drawn.
@@ -28,7 +28,14 @@ impl Chart {
     pub fn blank(heap: Global) -> Chart
         ensures { λ r. ⌜ content r ≡ nothing ⌝ }
     {
-        Chart { parts: Parts { title: None, instances: Vec::new(heap), messages: Vec::new(heap), events: Vec::new(heap) } }
+        Chart {
+            parts: Parts {
+                title: None,
+                instances: Vec::new(heap),
+                messages: Vec::new(heap),
+                events: Vec::new(heap),
+            },
+        }
     }
 
     pub fn title(&self) -> Option<Name>
@@ -66,8 +73,16 @@ impl Chart {
         let event = self.parts.events[place];
         let ends = &self.parts.messages[event.message().0 as usize];
         match event {
-            Event::Out(message) => Some(Line { instance: ends.sender, side: Side::Out, message }),
-            Event::In(message) => Some(Line { instance: ends.receiver, side: Side::In, message }),
+            Event::Out(message) => Some(Line {
+                instance: ends.sender,
+                side: Side::Out,
+                message,
+            }),
+            Event::In(message) => Some(Line {
+                instance: ends.receiver,
+                side: Side::In,
+                message,
+            }),
         }
     }
 

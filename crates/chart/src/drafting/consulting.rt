@@ -10,14 +10,13 @@ ghost use Rattle.chart.specs.Drafted.{drafted};
 ghost use Rattle.chart.specs.Drafting.{timesReceived, allReceived};
 ghost use Rattle.chart.specs.Lookup.{seek};
 ghost use Rattle.chart.specs.Shown.{happening};
-use super::Draft;
-use super::super::lookup::find;
+use super::super::lookup::find_message;
+use super::super::lookup::find_name;
 use super::super::numbers::InstanceId;
 use super::super::numbers::MessageId;
 use super::super::numbers::MessageIdPartialEq;
 use super::super::pieces::Event;
-use crate::lookup::MessageNamed;
-use crate::lookup::NameNamed;
+use super::Draft;
 
 // A message that was sent.
 #[derive(Clone, Copy)]
@@ -51,7 +50,7 @@ impl Draft {
     pub fn find_instance(&self, text: &[u8]) -> Option<InstanceId>
         ensures { λ r. ⌜ mapped (λ i. i .0) r ≡ seek (λ x. x) (now (text .entry)) (drafted (now (self .entry)) .instances) ⌝ }
     {
-        let Some(place) = find(&self.parts.instances, text) else {
+        let Some(place) = find_name(&self.parts.instances, text) else {
             return None;
         };
         Some(InstanceId(place as u16))
@@ -63,11 +62,15 @@ impl Draft {
         ensures sender { λ r. ⌜ Cases r (Unit {0}) (λ p. p .sender .0 ≡ senderOf (drafted (now (self .entry))) (p .number .0)) ⌝ }
         ensures receiver { λ r. ⌜ Cases r (Unit {0}) (λ p. p .receiver .0 ≡ receiverOf (drafted (now (self .entry))) (p .number .0)) ⌝ }
     {
-        let Some(place) = find(&self.parts.messages, text) else {
+        let Some(place) = find_message(&self.parts.messages, text) else {
             return None;
         };
         let message = &self.parts.messages[place];
-        Some(Sent { number: MessageId(place as u16), sender: message.sender, receiver: message.receiver })
+        Some(Sent {
+            number: MessageId(place as u16),
+            sender: message.sender,
+            receiver: message.receiver,
+        })
     }
 
     pub fn message_count(&self) -> usize
@@ -82,10 +85,10 @@ impl Draft {
         any_receives(&self.parts.events, message)
     }
 
-    pub fn all_received(&self) -> bool
+    pub(crate) fn all_received(&self) -> bool
         ensures { λ r. ⌜ r ≡ allReceived (drafted (now (self .entry))) ⌝ }
     {
-        for message in 0..self.parts.messages.len() {
+        for message in 0..self.message_count() {
             if !self.is_received(MessageId(message as u16)) {
                 return false;
             }

@@ -4,8 +4,8 @@ ghost use Rattle.std.specs.Options.{mapped};
 ghost use Rattle.chart.specs.Charted.{content};
 ghost use Rattle.chart.specs.Drafted.{drafted};
 ghost use Rattle.chart.specs.Drafting.{finished};
-use super::Draft;
 use super::super::charting::Chart;
+use super::Draft;
 
 impl Draft {
     // The chart, if each of its messages is received.

@@ -14,26 +14,25 @@ ghost use Rattle.chart.specs.Drafting.{begun, listed, dispatched, delivered, l
 ghost use Rattle.chart.specs.Lookup.{seek};
 ghost use Rattle.chart.specs.Names.{textOf};
 ghost use Rattle.chart.specs.Shown.{happening};
-use super::Draft;
-use super::InstanceRefusal;
-use super::ReceiveRefusal;
-use super::SendRefusal;
-use super::EVENT_LIMIT;
-use super::INSTANCE_LIMIT;
-use super::MESSAGE_LIMIT;
-use super::super::lookup::find;
-use super::super::names::naming::NameSame;
+use super::super::lookup::find_message;
 use super::super::names::Name;
+use super::super::names::naming::NameSame;
 use super::super::numbers::InstanceId;
 use super::super::numbers::MessageId;
 use super::super::pieces::Event;
 use super::super::pieces::Message;
 use super::super::pieces::Parts;
 use super::super::repeats::first_repeat;
+use super::Draft;
+use super::EVENT_LIMIT;
+use super::INSTANCE_LIMIT;
+use super::InstanceRefusal;
+use super::MESSAGE_LIMIT;
+use super::ReceiveRefusal;
+use super::SendRefusal;
+use crate::numbers::InstanceIdPartialEq;
 use std::alloc::AllocError;
 use std::alloc::Global;
-use crate::lookup::MessageNamed;
-use crate::numbers::InstanceIdPartialEq;
 
 impl Draft {
     pub fn new(heap: Global, title: Name, first: Name) -> Result<Draft, AllocError>
@@ -43,7 +42,14 @@ impl Draft {
         let messages = Vec::with_capacity(heap, MESSAGE_LIMIT)?;
         let events = Vec::with_capacity(heap, EVENT_LIMIT)?;
         instances.push_reserved(first);
-        Ok(Draft { parts: Parts { title: Some(title), instances, messages, events } })
+        Ok(Draft {
+            parts: Parts {
+                title: Some(title),
+                instances,
+                messages,
+                events,
+            },
+        })
     }
 
     // One instance more.
@@ -63,11 +69,16 @@ impl Draft {
     }
 
     // One message more, with its out event.
-    pub fn send(&mut self, name: Name, sender: InstanceId, receiver: InstanceId) -> Result<MessageId, SendRefusal>
+    pub fn send(
+        &mut self,
+        name: Name,
+        sender: InstanceId,
+        receiver: InstanceId,
+    ) -> Result<MessageId, SendRefusal>
         ensures answer { λ r. ⌜ leaving r (drafted (now (self .exit))) ≡ dispatched (drafted (now (self .entry))) (textOf name) (sender .0) (receiver .0) ⌝ }
         ensures number { λ r. ⌜ Cases r (λ m. m .0 ≡ length (drafted (now (self .entry)) .messages)) (λ _. drafted (now (self .exit)) ≡ drafted (now (self .entry))) ⌝ }
     {
-        if find(&self.parts.messages, name.text()).is_some() {
+        if find_message(&self.parts.messages, name.text()).is_some() {
             return Err(SendRefusal::NamedTwice);
         }
         let count = self.parts.messages.len();
@@ -84,7 +95,11 @@ impl Draft {
             return Err(SendRefusal::ToItself);
         }
         let message = MessageId(count as u16);
-        self.parts.messages.push_reserved(Message { name, sender, receiver });
+        self.parts.messages.push_reserved(Message {
+            name,
+            sender,
+            receiver,
+        });
         self.parts.events.push_reserved(Event::Out(message));
         Ok(message)
     }

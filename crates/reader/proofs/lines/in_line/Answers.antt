@@ -12,5 +12,5 @@ unreachable-requires c κs =
 pub returns : need.returns
 returns c =
     let e : drafted (c .receive .last .self) ≡ withReceipt (drafted (c .args .draft .now)) (c .in-Continue-message .message .number .0) =
-        received-so (drafted (c .args .draft .now)) (c .args .receiver .0) (c .in-Word .word .now) (c .in-Word .at) (c .in-Continue-message .message .number .0) (drafted (c .receive .last .self)) (sym (c .in-Continue-message .ensures tt .number)) (c .in-Ok .ensures tt .answer) in
+    received-so (drafted (c .args .draft .now)) (c .args .receiver .0) (c .in-Word .word .now) (c .in-Word .at) (c .in-Continue-message .message .number .0) (drafted (c .receive .last .self)) (sym (c .in-Continue-message .ensures tt .number)) (c .in-Ok .ensures tt .answer) in
     search needs

@@ -14,5 +14,5 @@ unreachable-requires c κs =
 pub returns : need.returns
 returns c =
     let e : drafted (c .send .last .self) ≡ withMessage (drafted (c .args .draft .now)) (textOf (c .in-Continue-name .name)) (c .args .sender .0) (c .in-Continue-receiver .receiver .0) =
-        sent-so (drafted (c .args .draft .now)) (c .args .sender .0) (c .in-Word .word .now) (c .in-Word .at) (textOf (c .in-Continue-name .name)) (c .in-Word-token .word .now) (c .in-Word-token .at) (c .in-Continue-receiver .receiver .0) (drafted (c .send .last .self)) (c .pre) (sym (c .in-Continue-name .ensures tt)) (sym (c .in-Continue-receiver .ensures tt)) (c .in-Ok .ensures tt .answer) in
+    sent-so (drafted (c .args .draft .now)) (c .args .sender .0) (c .in-Word .word .now) (c .in-Word .at) (textOf (c .in-Continue-name .name)) (c .in-Word-token .word .now) (c .in-Word-token .at) (c .in-Continue-receiver .receiver .0) (drafted (c .send .last .self)) (c .pre) (sym (c .in-Continue-name .ensures tt)) (sym (c .in-Continue-receiver .ensures tt)) (c .in-Ok .ensures tt .answer) in
     search needs

@@ -25,7 +25,7 @@ at-variant : (s v : Taken) (d : Content) (r : Outcome Step) → s ≡ v → Ok (
 at-variant s v d r is h = sym (ap (λ x. Ok (stepBy x d)) is) ∙ h
 
 pub loop-after-holds : need.loop-after-holds
-loop-after-holds c = (suc (c .args .whole), omega (arith, c .pre), refl)
+loop-after-holds c = (suc (length (c .args .rest .now)), omega arith, refl)
 
 pub returns-in-Break-after : need.returns-in-Break-after
 returns-in-Break-after c =

@@ -17,3 +17,6 @@ returns-then-not-is-received c = sym (not-all-below (λ m. ltb 0 (timesReceived 
 
 pub returns : need.returns
 returns c = sym (all-below (λ m. ltb 0 (timesReceived (drafted (c .args .self .now)) m)) (length (drafted (c .args .self .now) .messages)) (λ m l. c .loop-message .inv m (omega (arith, message-count (c .args .self .now .parts)))))
+
+pub cast-message : need.cast-message
+cast-message c = omega (arith, message-count (c .args .self .now .parts), c .args .self .now .«few_messages»)

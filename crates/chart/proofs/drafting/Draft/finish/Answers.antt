@@ -21,13 +21,43 @@ once d all m l = omega (arith, ltb-true 0 _ (each-below (λ n. ltb 0 (timesRecei
 
 pub ghost-result : need.ghost-result
 ghost-result c =
-    let d : Draft = c .args .self in
-    (d .titled ∙ sym (lt-ltb 0 _ (d .«some_instance»)), (d .«few_instances», (d .«few_messages», (omega (arith, few-events (drafted d) (growing d), event-count (d .parts), message-count (d .parts), d .«few_messages»),
-    (d .«instances_apart», (d .«messages_apart», (d .«all_join», (d .numbered, (d .«all_sent»,
-    ((λ m l. sent-once (drafted d .events) 0 m (d .numbered) (omega arith) (omega (arith, d .«all_sent»))),
-    (once d (sym (c .if-not-all-received .ensures tt)),
-    ((λ m l. sent-first (drafted d .events) 0 m (d .numbered) (omega arith) (omega (arith, d .«all_sent»))),
-    ((λ e x l. omega (arith, inside (drafted d .events) 0 (d .numbered) e x l, d .«all_sent»)), tt)))))))))))))
+    let d : Draft = c .args .self in (
+      d .titled ∙ sym (lt-ltb 0 _ (d .«some_instance»)),
+      (
+        d .«few_instances»,
+        (
+          d .«few_messages»,
+          (
+            omega (arith, few-events (drafted d) (growing d), event-count (d .parts), message-count (d .parts), d .«few_messages»),
+            (
+              d .«instances_apart»,
+              (
+                d .«messages_apart»,
+                (
+                  d .«all_join»,
+                  (
+                    d .numbered,
+                    (
+                      d .«all_sent»,
+                      (
+                        (λ m l. sent-once (drafted d .events) 0 m (d .numbered) (omega arith) (omega (arith, d .«all_sent»))),
+                        (
+                          once d (sym (c .if-not-all-received .ensures tt)),
+                          (
+                            (λ m l. sent-first (drafted d .events) 0 m (d .numbered) (omega arith) (omega (arith, d .«all_sent»))),
+                            ((λ e x l. omega (arith, inside (drafted d .events) 0 (d .numbered) e x l, d .«all_sent»)), tt),
+                          ),
+                        ),
+                      ),
+                    ),
+                  ),
+                ),
+              ),
+            ),
+          ),
+        ),
+      ),
+    )
 
 pub returns-then-not-all-received : need.returns-then-not-all-received
 returns-then-not-all-received c = sym (cond-false _ _ _ (sym (c .if-not-all-received .ensures tt)))

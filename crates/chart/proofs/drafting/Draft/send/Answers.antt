@@ -31,40 +31,40 @@ module _ (d : Draft) (t : Text) (s r : ℕ) (new : messageCalled (drafted d) t �
 pub returns-then-is-some : need.returns-then-is-some
 returns-then-is-some c =
     record {
-      answer = named-twice (drafted (c .args .self .now)) (textOf (c .args .name)) _ _ (named-so (c .args .self .now .parts) (textOf (c .args .name)) _ _ _ _ _ (c .text .ensures) (c .deref .ensures .value) (c .find .ensures) (c .is-some .ensures) (c .if-is-some .taken));
+      answer = named-twice (drafted (c .args .self .now)) (textOf (c .args .name)) _ _ (named-so (c .args .self .now .parts) (textOf (c .args .name)) _ _ _ _ _ (c .text .ensures) (c .deref .ensures .value) (c .find-message .ensures) (c .is-some .ensures) (c .if-is-some .taken));
       number = refl;
     }
 
 pub returns-then-count-ge-MESSAGE-LIMIT : need.returns-then-count-ge-MESSAGE-LIMIT
 returns-then-count-ge-MESSAGE-LIMIT c =
     record {
-      answer = too-many (drafted (c .args .self .now)) (textOf (c .args .name)) (c .args .sender .0) (c .args .receiver .0) (named-so (c .args .self .now .parts) (textOf (c .args .name)) _ _ _ _ _ (c .text .ensures) (c .deref .ensures .value) (c .find .ensures) (c .is-some .ensures) (c .if-is-some .left)) (omega (arith, message-count (c .args .self .now .parts)));
+      answer = too-many (drafted (c .args .self .now)) (textOf (c .args .name)) (c .args .sender .0) (c .args .receiver .0) (named-so (c .args .self .now .parts) (textOf (c .args .name)) _ _ _ _ _ (c .text .ensures) (c .deref .ensures .value) (c .find-message .ensures) (c .is-some .ensures) (c .if-is-some .left)) (omega (arith, message-count (c .args .self .now .parts)));
       number = refl;
     }
 
 pub returns-then-sender-len : need.returns-then-sender-len
 returns-then-sender-len c =
     record {
-      answer = no-sender (drafted (c .args .self .now)) (textOf (c .args .name)) (c .args .sender .0) (c .args .receiver .0) (named-so (c .args .self .now .parts) (textOf (c .args .name)) _ _ _ _ _ (c .text .ensures) (c .deref .ensures .value) (c .find .ensures) (c .is-some .ensures) (c .if-is-some .left)) (omega (arith, message-count (c .args .self .now .parts))) (omega (arith, instance-count (c .args .self .now .parts)));
+      answer = no-sender (drafted (c .args .self .now)) (textOf (c .args .name)) (c .args .sender .0) (c .args .receiver .0) (named-so (c .args .self .now .parts) (textOf (c .args .name)) _ _ _ _ _ (c .text .ensures) (c .deref .ensures .value) (c .find-message .ensures) (c .is-some .ensures) (c .if-is-some .left)) (omega (arith, message-count (c .args .self .now .parts))) (omega (arith, instance-count (c .args .self .now .parts)));
       number = refl;
     }
 
 pub returns-then-receiver-len : need.returns-then-receiver-len
 returns-then-receiver-len c =
     record {
-      answer = no-receiver (drafted (c .args .self .now)) (textOf (c .args .name)) (c .args .sender .0) (c .args .receiver .0) (named-so (c .args .self .now .parts) (textOf (c .args .name)) _ _ _ _ _ (c .text .ensures) (c .deref .ensures .value) (c .find .ensures) (c .is-some .ensures) (c .if-is-some .left)) (omega (arith, message-count (c .args .self .now .parts))) (omega (arith, instance-count (c .args .self .now .parts))) (omega (arith, instance-count (c .args .self .now .parts)));
+      answer = no-receiver (drafted (c .args .self .now)) (textOf (c .args .name)) (c .args .sender .0) (c .args .receiver .0) (named-so (c .args .self .now .parts) (textOf (c .args .name)) _ _ _ _ _ (c .text .ensures) (c .deref .ensures .value) (c .find-message .ensures) (c .is-some .ensures) (c .if-is-some .left)) (omega (arith, message-count (c .args .self .now .parts))) (omega (arith, instance-count (c .args .self .now .parts))) (omega (arith, instance-count (c .args .self .now .parts)));
       number = refl;
     }
 
 pub returns-then-eq : need.returns-then-eq
 returns-then-eq c =
     record {
-      answer = to-itself (drafted (c .args .self .now)) (textOf (c .args .name)) (c .args .sender .0) (c .args .receiver .0) (named-so (c .args .self .now .parts) (textOf (c .args .name)) _ _ _ _ _ (c .text .ensures) (c .deref .ensures .value) (c .find .ensures) (c .is-some .ensures) (c .if-is-some .left)) (omega (arith, message-count (c .args .self .now .parts))) (omega (arith, instance-count (c .args .self .now .parts))) (omega (arith, instance-count (c .args .self .now .parts))) (c .eq .ensures .0 (c .if-eq .taken));
+      answer = to-itself (drafted (c .args .self .now)) (textOf (c .args .name)) (c .args .sender .0) (c .args .receiver .0) (named-so (c .args .self .now .parts) (textOf (c .args .name)) _ _ _ _ _ (c .text .ensures) (c .deref .ensures .value) (c .find-message .ensures) (c .is-some .ensures) (c .if-is-some .left)) (omega (arith, message-count (c .args .self .now .parts))) (omega (arith, instance-count (c .args .self .now .parts))) (omega (arith, instance-count (c .args .self .now .parts))) (c .eq .ensures .0 (c .if-eq .taken));
       number = refl;
     }
 
 pub push-reserved-requires-2 : need.push-reserved-requires-2
-push-reserved-requires-2 c κs = omega (arith, room (c .args .self .now) (textOf (c .args .name)) (c .args .sender .0) (c .args .receiver .0) (named-so (c .args .self .now .parts) (textOf (c .args .name)) _ _ _ _ _ (c .text .ensures) (c .deref .ensures .value) (c .find .ensures) (c .is-some .ensures) (c .if-is-some .left)) (omega arith) (omega arith) (omega arith) (not-from-decides _ (c .eq .ensures) (c .if-eq .left)), c .args .self .now .«event_room»)
+push-reserved-requires-2 c κs = omega (arith, room (c .args .self .now) (textOf (c .args .name)) (c .args .sender .0) (c .args .receiver .0) (named-so (c .args .self .now .parts) (textOf (c .args .name)) _ _ _ _ _ (c .text .ensures) (c .deref .ensures .value) (c .find-message .ensures) (c .is-some .ensures) (c .if-is-some .left)) (omega arith) (omega arith) (omega arith) (not-from-decides _ (c .eq .ensures) (c .if-eq .left)), c .args .self .now .«event_room»)
 
 pub ghost-self : need.ghost-self
 ghost-self c =
@@ -79,11 +79,11 @@ ghost-self c =
       few-instances = d .«few_instances»;
       few-messages = omega (arith, c .push-reserved .ensures .len);
     })
-    (subst Growing (sym (with-message (c .args .self .now .parts) (c .push-reserved .last .self) (c .push-reserved-2 .last .self) (record { name = c .args .name; sender = c .args .sender; receiver = c .args .receiver }) (record { 0 = c .len-count .result }) (c .push-reserved .ensures .items) (c .push-reserved-2 .ensures .items) (c .len-count .ensures))) (grown (c .args .self .now) (textOf (c .args .name)) (c .args .sender .0) (c .args .receiver .0) (named-so (c .args .self .now .parts) (textOf (c .args .name)) _ _ _ _ _ (c .text .ensures) (c .deref .ensures .value) (c .find .ensures) (c .is-some .ensures) (c .if-is-some .left)) (omega arith) (omega arith) (omega arith) (not-from-decides _ (c .eq .ensures) (c .if-eq .left))))
+    (subst Growing (sym (with-message (c .args .self .now .parts) (c .push-reserved .last .self) (c .push-reserved-2 .last .self) (record { name = c .args .name; sender = c .args .sender; receiver = c .args .receiver }) (record { 0 = c .len-count .result }) (c .push-reserved .ensures .items) (c .push-reserved-2 .ensures .items) (c .len-count .ensures))) (grown (c .args .self .now) (textOf (c .args .name)) (c .args .sender .0) (c .args .receiver .0) (named-so (c .args .self .now .parts) (textOf (c .args .name)) _ _ _ _ _ (c .text .ensures) (c .deref .ensures .value) (c .find-message .ensures) (c .is-some .ensures) (c .if-is-some .left)) (omega arith) (omega arith) (omega arith) (not-from-decides _ (c .eq .ensures) (c .if-eq .left))))
 
 pub returns : need.returns
 returns c =
     record {
-      answer = ap Ok (with-message (c .args .self .now .parts) (c .push-reserved .last .self) (c .push-reserved-2 .last .self) (record { name = c .args .name; sender = c .args .sender; receiver = c .args .receiver }) (record { 0 = c .len-count .result }) (c .push-reserved .ensures .items) (c .push-reserved-2 .ensures .items) (c .len-count .ensures)) ∙ is-sent (drafted (c .args .self .now)) (textOf (c .args .name)) (c .args .sender .0) (c .args .receiver .0) (named-so (c .args .self .now .parts) (textOf (c .args .name)) _ _ _ _ _ (c .text .ensures) (c .deref .ensures .value) (c .find .ensures) (c .is-some .ensures) (c .if-is-some .left)) (omega (arith, message-count (c .args .self .now .parts))) (omega (arith, instance-count (c .args .self .now .parts))) (omega (arith, instance-count (c .args .self .now .parts))) (not-from-decides _ (c .eq .ensures) (c .if-eq .left));
+      answer = ap Ok (with-message (c .args .self .now .parts) (c .push-reserved .last .self) (c .push-reserved-2 .last .self) (record { name = c .args .name; sender = c .args .sender; receiver = c .args .receiver }) (record { 0 = c .len-count .result }) (c .push-reserved .ensures .items) (c .push-reserved-2 .ensures .items) (c .len-count .ensures)) ∙ is-sent (drafted (c .args .self .now)) (textOf (c .args .name)) (c .args .sender .0) (c .args .receiver .0) (named-so (c .args .self .now .parts) (textOf (c .args .name)) _ _ _ _ _ (c .text .ensures) (c .deref .ensures .value) (c .find-message .ensures) (c .is-some .ensures) (c .if-is-some .left)) (omega (arith, message-count (c .args .self .now .parts))) (omega (arith, instance-count (c .args .self .now .parts))) (omega (arith, instance-count (c .args .self .now .parts))) (not-from-decides _ (c .eq .ensures) (c .if-eq .left));
       number = c .len-count .ensures ∙ sym (message-count (c .args .self .now .parts));
     }

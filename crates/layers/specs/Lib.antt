@@ -1,0 +1,4 @@
+pub mod Refusals
+pub mod Layers
+pub mod Made
+pub mod Shown
