@@ -3,7 +3,8 @@ use chart::charting::Chart;
 use chart::names::Name;
 use chart::names::naming::NameSame;
 use chart::numbers::InstanceIdPartialEq;
-use chart::pieces::EventPartialEq;
+use chart::numbers::MessageIdPartialEq;
+use chart::pieces::Event;
 use chart::pieces::Message;
 use chart::repeats::Same;
 
@@ -38,9 +39,26 @@ fn same_messages(a: &[Message], b: &[Message]) -> bool {
     a.len() == b.len()
 }
 
+fn is_same_event(a: Event, b: Event) -> bool {
+    match (a, b) {
+        (Event::Out(one), Event::Out(other)) => one == other,
+        (Event::In(one), Event::In(other)) => one == other,
+        _ => false,
+    }
+}
+
+fn same_events(a: &[Event], b: &[Event]) -> bool {
+    for (one, other) in a.iter().zip(b.iter()) {
+        if !is_same_event(*one, *other) {
+            return false;
+        }
+    }
+    a.len() == b.len()
+}
+
 pub fn same_charts(a: &Chart, b: &Chart) -> bool {
     same_titles(a.title(), b.title())
         && same_names(a.instances(), b.instances())
         && same_messages(a.messages(), b.messages())
-        && a.events() == b.events()
+        && same_events(a.events(), b.events())
 }
