@@ -1,5 +1,6 @@
 // Reads a text at every limit as often as it is told, to measure what a read costs.
 mod making;
+
 use chart::charting::Chart;
 use making::full_text;
 use reader::reading::read;
@@ -19,7 +20,8 @@ fn times(rt: &LibcRuntime) -> Result<u64, AnyError> {
 fn checksum(chart: &Chart) -> u64 {
     let mut sum: u64 = 0;
     for event in chart.events() {
-        sum = sum.wrapping_mul(31).wrapping_add(u64::from(event.message().0));
+        sum = sum.wrapping_mul(31)
+            .wrapping_add(u64::from(event.message().0));
     }
     sum.wrapping_add(chart.instances().len() as u64)
 }
@@ -45,7 +47,10 @@ fn run(rt: &LibcRuntime) -> Result<(), AnyError> {
     };
     let bytes = text.len();
     let events = place.events().len();
-    println!(rt, "{count} reads of {bytes} bytes, {events} events: checksum {sum}")?;
+    println!(
+        rt,
+        "{count} reads of {bytes} bytes, {events} events: checksum {sum}"
+    )?;
     Ok(())
 }
 

@@ -4,6 +4,7 @@ use std::alloc::AllocError;
 use std::alloc::Global;
 
 const INSTANCES: u8 = 16;
+
 const MESSAGES: u8 = 64;
 
 // A name of 24 bytes: a letter, twenty-one more that all such names share, and two digits.
@@ -27,7 +28,14 @@ fn push_heading(text: &mut Vec<u8>) -> Result<(), AllocError> {
     text.extend_from_slice(b";\n")
 }
 
-fn push_line(text: &mut Vec<u8>, at: u8, side: &[u8], message: u8, joint: &[u8], partner: u8) -> Result<(), AllocError> {
+fn push_line(
+    text: &mut Vec<u8>,
+    at: u8,
+    side: &[u8],
+    message: u8,
+    joint: &[u8],
+    partner: u8,
+) -> Result<(), AllocError> {
     push_name(text, b'i', at)?;
     text.extend_from_slice(side)?;
     push_name(text, b'm', message)?;

@@ -70,8 +70,16 @@ pub static REFUSED: [Case; 137] = [
     Case(b"msc a; inst p, q; p: out m to q; q: in _m from p;", 2, 39),
     Case(b"msc a; inst p, q; p: out m to q; q: in m to p;", 2, 41),
     Case(b"msc a; inst p, q; p: out m to q; q: in m fr", 2, 41),
-    Case(b"msc a; inst p, q; p: out m to q; q: in m from endmsc;", 2, 46),
-    Case(b"msc a; inst p, q; p: out m to q; q: in m from p endmsc;", 2, 48),
+    Case(
+        b"msc a; inst p, q; p: out m to q; q: in m from endmsc;",
+        2,
+        46,
+    ),
+    Case(
+        b"msc a; inst p, q; p: out m to q; q: in m from p endmsc;",
+        2,
+        48,
+    ),
     Case(b"msc a; inst p, q; p: out m to q; q: in m from p", 2, 47),
     // 2: past `endmsc`
     Case(b"msc a; inst p; endmsc", 2, 21),
@@ -105,22 +113,62 @@ pub static REFUSED: [Case; 137] = [
     Case(b"msc abcdefghijklmnopqrstuvwxy", 3, 4),
     Case(b"msc a; inst abcdefghijklmnopqrstuvwxy; endmsc;", 3, 12),
     Case(b"msc a; inst p, abcdefghijklmnopqrstuvwxy; endmsc;", 3, 15),
-    Case(b"msc a; inst p; abcdefghijklmnopqrstuvwxy: out m to p;", 3, 15),
-    Case(b"msc a; inst p, q; p: out abcdefghijklmnopqrstuvwxy to q;", 3, 25),
-    Case(b"msc a; inst p, q; p: out m to abcdefghijklmnopqrstuvwxy;", 3, 30),
-    Case(b"msc a; inst p, q; p: out m to q; q: in abcdefghijklmnopqrstuvwxy from p;", 3, 39),
-    Case(b"msc a; inst p, q; p: out m to q; q: in m from abcdefghijklmnopqrstuvwxy;", 3, 46),
-    Case(b"msc x; inst a,b,c,d,e,f,g,h,i,j,k,l,m,n,o,p,abcdefghijklmnopqrstuvwxy; endmsc;", 3, 44),
+    Case(
+        b"msc a; inst p; abcdefghijklmnopqrstuvwxy: out m to p;",
+        3,
+        15,
+    ),
+    Case(
+        b"msc a; inst p, q; p: out abcdefghijklmnopqrstuvwxy to q;",
+        3,
+        25,
+    ),
+    Case(
+        b"msc a; inst p, q; p: out m to abcdefghijklmnopqrstuvwxy;",
+        3,
+        30,
+    ),
+    Case(
+        b"msc a; inst p, q; p: out m to q; q: in abcdefghijklmnopqrstuvwxy from p;",
+        3,
+        39,
+    ),
+    Case(
+        b"msc a; inst p, q; p: out m to q; q: in m from abcdefghijklmnopqrstuvwxy;",
+        3,
+        46,
+    ),
+    Case(
+        b"msc x; inst a,b,c,d,e,f,g,h,i,j,k,l,m,n,o,p,abcdefghijklmnopqrstuvwxy; endmsc;",
+        3,
+        44,
+    ),
     // 4: a seventeenth instance, new or named before
-    Case(b"msc x; inst a,b,c,d,e,f,g,h,i,j,k,l,m,n,o,p,q; endmsc;", 4, 44),
-    Case(b"msc x; inst a,b,c,d,e,f,g,h,i,j,k,l,m,n,o,p,a; endmsc;", 4, 44),
+    Case(
+        b"msc x; inst a,b,c,d,e,f,g,h,i,j,k,l,m,n,o,p,q; endmsc;",
+        4,
+        44,
+    ),
+    Case(
+        b"msc x; inst a,b,c,d,e,f,g,h,i,j,k,l,m,n,o,p,a; endmsc;",
+        4,
+        44,
+    ),
     Case(b"msc x; inst a,b,c,d,e,f,g,h,i,j,k,l,m,n,o,p, p", 4, 45),
     // 5: an instance or a message named twice
     Case(b"msc a; inst p, p; endmsc;", 5, 15),
     Case(b"msc a; inst p, q, r, q, q; endmsc;", 5, 21),
-    Case(b"msc x; inst a,b,c,d,e,f,g,h,i,j,k,l,m,n,o,o; endmsc;", 5, 42),
+    Case(
+        b"msc x; inst a,b,c,d,e,f,g,h,i,j,k,l,m,n,o,o; endmsc;",
+        5,
+        42,
+    ),
     Case(b"msc a; inst p, q; p: out m to q; q: out m to p;", 5, 40),
-    Case(b"msc a; inst p, q; p: out m to q; q: in m from p; p: out m to q;", 5, 56),
+    Case(
+        b"msc a; inst p, q; p: out m to q; q: in m from p; p: out m to q;",
+        5,
+        56,
+    ),
     Case(b"msc a; inst p, q; p: out m to q; p: out m to p;", 5, 40),
     // 6: an instance that the list lacks; also a text cut inside `endmsc`
     Case(b"msc a; inst p, q; r: out m to q;", 6, 18),
@@ -137,15 +185,31 @@ pub static REFUSED: [Case; 137] = [
     // 7: an out line's receiver is its sender
     Case(b"msc a; inst p, q; p: out m to p;", 7, 30),
     Case(b"msc a; inst p; p: out m to p", 7, 27),
-    Case(b"msc a; inst p, q; p: out m to q; q: in m from p; q: out n to q; endmsc;", 7, 61),
+    Case(
+        b"msc a; inst p, q; p: out m to q; q: in m from p; q: out n to q; endmsc;",
+        7,
+        61,
+    ),
     // 9: a message that was not sent, was received before, or has another receiver or sender
     Case(b"msc a; inst p, q; q: in m from p;", 9, 24),
     Case(b"msc a; inst p, q; q: in m from p; p: out m to q;", 9, 24),
     Case(b"msc a; inst p, q; p: out m to q; q: in M from p;", 9, 39),
-    Case(b"msc a; inst p, q; p: out m to q; q: in m from p; q: in m from p;", 9, 55),
+    Case(
+        b"msc a; inst p, q; p: out m to q; q: in m from p; q: in m from p;",
+        9,
+        55,
+    ),
     Case(b"msc a; inst p, q; p: out m to q; p: in m from q;", 9, 39),
-    Case(b"msc a; inst p, q, r; p: out m to q; r: in m from p;", 9, 42),
-    Case(b"msc a; inst p, q, r; p: out m to q; q: in m from r;", 9, 49),
+    Case(
+        b"msc a; inst p, q, r; p: out m to q; r: in m from p;",
+        9,
+        42,
+    ),
+    Case(
+        b"msc a; inst p, q, r; p: out m to q; q: in m from r;",
+        9,
+        49,
+    ),
     Case(b"msc a; inst p, q; p: out m to q; q: in m from q;", 9, 46),
     Case(b"msc a; inst p, q; p: out m to q; p: in m from p;", 9, 39),
     Case(b"msc a; inst p, q; p: out m to q; q: in p from p;", 9, 39),
@@ -153,6 +217,14 @@ pub static REFUSED: [Case; 137] = [
     Case(b"msc a; inst p, q; p: out m to q; endmsc;", 10, 33),
     Case(b"msc a; inst p, q; p: out m to q; endmsc", 10, 33),
     Case(b"msc a; inst p, q; p: out m to q; endmsc x", 10, 33),
-    Case(b"msc a; inst p, q; p: out m to q; p: out n to q; q: in n from p; endmsc;", 10, 64),
-    Case(b"msc a; inst p, q; p: out m to q; q: in m from p; q: out n to p;\nendmsc; \xff", 10, 64),
+    Case(
+        b"msc a; inst p, q; p: out m to q; p: out n to q; q: in n from p; endmsc;",
+        10,
+        64,
+    ),
+    Case(
+        b"msc a; inst p, q; p: out m to q; q: in m from p; q: out n to p;\nendmsc; \xff",
+        10,
+        64,
+    ),
 ];
