@@ -55,7 +55,7 @@ fn push_lines(text: &mut Vec<u8>) -> Result<(), AllocError> {
     Ok(())
 }
 
-pub fn full_text(heap: Global) -> Result<Vec<u8>, AllocError> {
+pub(crate) fn full_text(heap: Global) -> Result<Vec<u8>, AllocError> {
     let mut text = Vec::new(heap);
     push_heading(&mut text)?;
     push_lines(&mut text)?;

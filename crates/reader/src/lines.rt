@@ -15,6 +15,7 @@ use super::tokens::Token;
 use super::tokens::next_token;
 use chart::drafting::Draft;
 use chart::drafting::InstanceRefusal;
+use chart::drafting::MESSAGE_LIMIT;
 use chart::drafting::consulting::Sent;
 use chart::names::Name;
 use chart::names::NameRefusal;
@@ -109,7 +110,7 @@ fn new_message(draft: &Draft, word: &[u8], at: usize) -> Result<Name, Refusal>
     if draft.find_message(name.text()).is_some() {
         return Err(Refusal::NamedTwice { at });
     }
-    if draft.message_count() >= 64 {
+    if draft.message_count() >= MESSAGE_LIMIT {
         return Err(Refusal::TooManyMessages { at });
     }
     Ok(name)

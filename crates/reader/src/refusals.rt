@@ -1,6 +1,7 @@
 // Why a text comes back.
 ghost use mathlib.Core.Path.{_≡_};
 ghost use Rattle.reader.specs.Refusals.{number, place};
+use super::reading::TEXT_LIMIT;
 
 // A refusal, with the place of the byte at which it stands.
 #[derive(Clone, Copy, PartialEq, Eq, Debug)]
@@ -49,7 +50,7 @@ impl Refusal {
         ensures { λ r. ⌜ r ≡ place self ⌝ }
     {
         match self {
-            Refusal::TextTooLong => 16_384,
+            Refusal::TextTooLong => TEXT_LIMIT,
             Refusal::Unexpected { at } => at,
             Refusal::NameTooLong { at } => at,
             Refusal::TooManyInstances { at } => at,

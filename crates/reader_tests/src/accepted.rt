@@ -1,5 +1,5 @@
 // Texts that are charts; the expected output has what each says.
-pub static ACCEPTED: [&'static [u8]; 8] = [
+pub(crate) static ACCEPTED: [&'static [u8]; 8] = [
     b"msc step; inst pc, gen, met;\npc: out set to gen;\ngen: in set from pc;\npc: out read to met;\nmet: in read from pc;\ngen: out lvl to pc;\npc: in lvl from gen;\nmet: out val to pc;\npc: in val from met;\nendmsc;\n",
     b"msc a; inst p; endmsc;",
     // no blank where a mark divides

@@ -1,9 +1,9 @@
 // Texts that come back.
 
 // A text, and the number and the place of its refusal.
-pub struct Case(pub &'static [u8], pub u8, pub usize);
+pub(crate) struct Case(pub &'static [u8], pub u8, pub usize);
 
-pub static REFUSED: [Case; 137] = [
+pub(crate) static REFUSED: [Case; 137] = [
     // 2: what the form does not want at the start of a text
     Case(b"", 2, 0),
     Case(b" \t\r\n ", 2, 5),

@@ -56,7 +56,7 @@ fn same_events(a: &[Event], b: &[Event]) -> bool {
     a.len() == b.len()
 }
 
-pub fn same_charts(a: &Chart, b: &Chart) -> bool {
+pub(crate) fn same_charts(a: &Chart, b: &Chart) -> bool {
     same_titles(a.title(), b.title())
         && same_names(a.instances(), b.instances())
         && same_messages(a.messages(), b.messages())

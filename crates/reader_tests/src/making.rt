@@ -8,7 +8,7 @@ fn numbered(letter: u8, number: u8) -> [u8; 3] {
 }
 
 // `msc a; inst i00, i01, ..`: 12 bytes, 3 for each instance and 2 between.
-pub fn list_of(heap: Global, count: u8) -> Result<Vec<u8>, AllocError> {
+pub(crate) fn list_of(heap: Global, count: u8) -> Result<Vec<u8>, AllocError> {
     let mut text = Vec::new(heap);
     text.extend_from_slice(b"msc a; inst i00")?;
     for number in 1..count {
@@ -19,12 +19,12 @@ pub fn list_of(heap: Global, count: u8) -> Result<Vec<u8>, AllocError> {
 }
 
 // What stands before the lines: 17 bytes.
-pub fn heading(heap: Global) -> Result<Vec<u8>, AllocError> {
+pub(crate) fn heading(heap: Global) -> Result<Vec<u8>, AllocError> {
     Vec::from_slice(heap, b"msc a; inst p, q;")
 }
 
 // An out line for each number: 16 bytes each, the message at the eighth.
-pub fn sends(text: &mut Vec<u8>, count: u8) -> Result<(), AllocError> {
+pub(crate) fn sends(text: &mut Vec<u8>, count: u8) -> Result<(), AllocError> {
     for number in 0..count {
         text.extend_from_slice(b"p: out ")?;
         text.extend_from_slice(&numbered(b'm', number))?;
@@ -34,7 +34,7 @@ pub fn sends(text: &mut Vec<u8>, count: u8) -> Result<(), AllocError> {
 }
 
 // An in line for each number: 17 bytes each.
-pub fn receives(text: &mut Vec<u8>, count: u8) -> Result<(), AllocError> {
+pub(crate) fn receives(text: &mut Vec<u8>, count: u8) -> Result<(), AllocError> {
     for number in 0..count {
         text.extend_from_slice(b"q: in ")?;
         text.extend_from_slice(&numbered(b'm', number))?;
@@ -44,7 +44,7 @@ pub fn receives(text: &mut Vec<u8>, count: u8) -> Result<(), AllocError> {
 }
 
 // The same byte over and over, up to a length.
-pub fn filled(text: &mut Vec<u8>, byte: u8, length: usize) -> Result<(), AllocError> {
+pub(crate) fn filled(text: &mut Vec<u8>, byte: u8, length: usize) -> Result<(), AllocError> {
     for _ in text.len()..length {
         text.push(byte)?;
     }

@@ -49,13 +49,13 @@ fn print_lines(rt: &LibcRuntime, chart: &Chart) -> io::Result<()> {
     Ok(())
 }
 
-pub fn print_chart(rt: &LibcRuntime, chart: &Chart) -> io::Result<()> {
+pub(crate) fn print_chart(rt: &LibcRuntime, chart: &Chart) -> io::Result<()> {
     print_heading(rt, chart)?;
     print_messages(rt, chart)?;
     print_lines(rt, chart)
 }
 
-pub fn print_counts(rt: &LibcRuntime, chart: &Chart) -> io::Result<()> {
+pub(crate) fn print_counts(rt: &LibcRuntime, chart: &Chart) -> io::Result<()> {
     let instances = chart.instances().len();
     let messages = chart.messages().len();
     let events = chart.events().len();
@@ -65,7 +65,7 @@ pub fn print_counts(rt: &LibcRuntime, chart: &Chart) -> io::Result<()> {
     )
 }
 
-pub fn print_error(rt: &LibcRuntime, error: ReadError) -> io::Result<()> {
+pub(crate) fn print_error(rt: &LibcRuntime, error: ReadError) -> io::Result<()> {
     match error {
         ReadError::Refused(refusal) => {
             let number = refusal.number();

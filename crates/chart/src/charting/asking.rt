@@ -1,6 +1,5 @@
 // What a chart has.
 ghost use mathlib.Core.Path.{_≡_};
-ghost use mathlib.Core.List.{[]};
 ghost use Rattle.std.specs.Of.Vec.{vec-items, vec-heap};
 ghost use Rattle.chart.specs.Charted.{content, lineOf};
 ghost use Rattle.chart.specs.Content.{nothing};
