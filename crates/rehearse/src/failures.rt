@@ -83,3 +83,41 @@ pub impl fmt::Display for Failure as FailureDisplay {
         }
     }
 }
+
+#[cfg(test)]
+mod tests {
+    use super::FailureDisplay;
+    use super::refused;
+    use chart::charting::Chart;
+    use reader::reading::read;
+    use std::test::*;
+
+    // What is written of each refused text.
+    const WRITTEN: [(&[u8], &str); 3] = [
+        (
+            b"msc a; inst p, p; endmsc;",
+            "refused 5 at 15\nthe name stands here a second time\nline 1, column 16",
+        ),
+        (
+            b"msc a;\ninst p;\n\tq: out",
+            "refused 6 at 16\nthe list of instances lacks this name\nline 3, column 2",
+        ),
+        (
+            b"msc a;\n\n",
+            "refused 2 at 8\nthis is not what the form of a chart wants here, or the text ends early\nline 3, column 1",
+        ),
+    ];
+
+    #[test]
+    fn refusals_in_words(rt: LibcRuntime) -> Result<(), Fail> {
+        for (text, words) in WRITTEN {
+            let mut place = Chart::blank(rt.alloc());
+            let Err(error) = read(&mut place, text) else {
+                return Err(Fail::new("the text is accepted"));
+            };
+            let failure = refused(error, text);
+            check(format!(rt.alloc(), "{failure}")?.as_str() == words)?;
+        }
+        Ok(())
+    }
+}
