@@ -8,11 +8,11 @@ use super::input::Source;
 use chart::words::same_text;
 use std::env;
 
-pub const USAGE: &str =
+pub(crate) const USAGE: &str =
     "usage: rehearse [FILE]\nShows the chart of FILE, or of standard input where FILE is left out or is -.";
 
 #[derive(Drop)]
-pub enum Request {
+pub(crate) enum Request {
     Help,
     Show(Source),
 }
@@ -42,7 +42,7 @@ fn request_of(word: String) -> Option<Request>
     Some(Request::Show(Source::File(word)))
 }
 
-pub fn requested(rt: &LibcRuntime) -> Result<Request, Failure> {
+pub(crate) fn requested(rt: &LibcRuntime) -> Result<Request, Failure> {
     let mut words = match env::args(rt) {
         Ok(args) => args.skip(1),
         Err(error) => return Err(Failure::NoArguments(error)),

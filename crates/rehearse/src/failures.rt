@@ -11,7 +11,7 @@ use std::fmt;
 use std::io;
 
 #[derive(Drop)]
-pub enum Failure {
+pub(crate) enum Failure {
     Usage,
     NoArguments(io::Error),
     Unreadable(io::Error),
@@ -32,7 +32,7 @@ pub impl From<AllocError> for Failure as FailureFromAlloc {
     }
 }
 
-pub fn refused(error: ReadError, text: &[u8]) -> Failure
+pub(crate) fn refused(error: ReadError, text: &[u8]) -> Failure
     ensures { λ r. ⌜ r ≡ failureOf error (now (text .entry)) ⌝ }
 {
     match error {

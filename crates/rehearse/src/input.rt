@@ -6,7 +6,7 @@ use std::io;
 use std::io::Read;
 
 #[derive(Drop)]
-pub enum Source {
+pub(crate) enum Source {
     Input,
     File(String),
 }
@@ -26,7 +26,7 @@ fn bytes_of(rt: &LibcRuntime, source: &Source) -> io::Result<Vec<u8>> {
     Ok(bytes)
 }
 
-pub fn text_of(rt: &LibcRuntime, source: &Source) -> Result<Vec<u8>, Failure> {
+pub(crate) fn text_of(rt: &LibcRuntime, source: &Source) -> Result<Vec<u8>, Failure> {
     match bytes_of(rt, source) {
         Ok(bytes) => Ok(bytes),
         Err(error) => Err(Failure::Unreadable(error)),

@@ -5,13 +5,13 @@ ghost use Rattle.rehearse.specs.Positions.{lineAfter, columnAfter};
 // A place as one who looks for it counts: lines and columns from 1. A column counts bytes, so a tab is one and a
 // character of several bytes is several. The numbers are wide enough for one more than any length.
 #[derive(Clone, Copy)]
-pub struct Position {
+pub(crate) struct Position {
     pub line: u128,
     pub column: u128,
 }
 
 // The position that follows these bytes.
-pub fn position_after(before: &[u8]) -> Position
+pub(crate) fn position_after(before: &[u8]) -> Position
     ensures line { λ r. ⌜ r .line ≡ lineAfter (now (before .entry)) ⌝ }
     ensures column { λ r. ⌜ r .column ≡ columnAfter (now (before .entry)) ⌝ }
 {

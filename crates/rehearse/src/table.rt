@@ -21,7 +21,7 @@ use std::str::from_utf8;
 
 // What a row tells of an event: its instance, side and message, and the instance at the other end.
 #[derive(Clone, Copy)]
-pub struct Row<'a> {
+pub(crate) struct Row<'a> {
     pub instance: &'a Name,
     pub side: Side,
     pub message: &'a Name,
@@ -101,7 +101,7 @@ fn print_row(rt: &LibcRuntime, number: usize, row: Row<'_>, width: usize) -> Res
     Ok(())
 }
 
-pub fn print_chart(rt: &LibcRuntime, chart: &Chart) -> Result<(), Failure> {
+pub(crate) fn print_chart(rt: &LibcRuntime, chart: &Chart) -> Result<(), Failure> {
     if let Some(title) = chart.title() {
         let title = shown(&title);
         println!(rt, "chart {title}\n")?;
