@@ -1,4 +1,6 @@
 // The reversible pairs of a chart over a delivery: computed, reported, listed, and as values for programs.
+#![tactic(auto)]
+
 mod asking;
 pub mod filling;
 mod judging;

@@ -1,4 +1,6 @@
 // Lists charts whose reversible pairs are known over every wiring, and tries the calls at their limits.
+#![tactic(auto)]
+
 mod charts;
 mod making;
 mod showing;

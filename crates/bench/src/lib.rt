@@ -1,4 +1,6 @@
 // A bench: a chart's events are fired on it one by one, or by a schedule, over a delivery that it owns.
+#![tactic(auto)]
+
 mod handing;
 mod layout;
 pub mod refusal;

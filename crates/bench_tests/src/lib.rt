@@ -1,4 +1,6 @@
 // The bench at work, against answers written by hand.
+#![tactic(auto)]
+
 #[cfg(test)]
 mod firing;
 #[cfg(test)]

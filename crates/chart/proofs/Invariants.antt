@@ -49,7 +49,7 @@ kept p r g = (
             r.few_instances,
             (
               r.few_messages,
-              (g.instances_apart, (g.messages_apart, (g.all-join, (g.is_numbered, (g.all_sent, (g.none_twice, tt)))))),
+              (g.instances_apart, (g.messages_apart, (g.all_join, (g.is_numbered, (g.all_sent, (g.none_twice, tt)))))),
             ),
           ),
         ),

@@ -1,4 +1,6 @@
 // Charts: their numbers, their names, and what always holds of an accepted one.
+#![tactic(auto)]
+
 pub mod charting;
 pub mod drafting;
 mod lookup;

@@ -1,4 +1,6 @@
 // What a delivery means: which parcels wait, which may be taken, and why a call comes back.
+#![tactic(auto)]
+
 pub mod limits;
 pub mod meaning;
 pub mod parcel;

@@ -1,4 +1,6 @@
 // Layers that stand over any delivery, hold it by value and give it back when taken apart.
+#![tactic(auto)]
+
 pub mod bound;
 pub mod bounded;
 mod deeper;

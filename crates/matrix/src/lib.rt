@@ -1,4 +1,6 @@
 // Sets of a chart's events, and the matrix that holds which event comes before which.
+#![tactic(auto)]
+
 pub mod matrices;
 pub mod places;
 pub mod sets;

@@ -1,4 +1,6 @@
 // The order that a wiring enforces among a chart's events, and the pairs of events that it lets come the other way round.
+#![tactic(auto)]
+
 pub mod judging;
 pub mod tags;
 

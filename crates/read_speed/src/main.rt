@@ -1,4 +1,6 @@
 // Reads a text at every limit as often as it is told, to measure what a read costs.
+#![tactic(auto)]
+
 mod making;
 
 use anyhow::anyhow;

@@ -1,4 +1,6 @@
 // Reads texts whose answers are known: a table of refusals, charts told in full, and texts at the limits.
+#![tactic(auto)]
+
 mod accepted;
 mod cases;
 mod comparing;

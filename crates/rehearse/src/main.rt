@@ -1,4 +1,6 @@
 // Reads a chart text and shows the chart as a table, or says why the text comes back.
+#![tactic(auto)]
+
 mod arguments;
 mod failures;
 mod input;

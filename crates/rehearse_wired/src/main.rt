@@ -1,5 +1,7 @@
 // Reads a chart text, shows the chart as a table, sends its messages through a wiring, lists its reversible pairs, and fires
 // events on a bench; or says why not.
+#![tactic(auto)]
+
 mod arguments;
 mod failures;
 mod firing;

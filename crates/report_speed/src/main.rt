@@ -1,4 +1,6 @@
 // Reports the reversible pairs of a chart with 128 events as often as it is told, to measure what a report costs.
+#![tactic(auto)]
+
 mod making;
 
 use analysis::report;

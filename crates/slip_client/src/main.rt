@@ -1,4 +1,6 @@
 // A client of plays: it begins one, advances it, and closes it on every way out.
+#![tactic(auto)]
+
 mod session;
 
 use anyhow::anyhow;

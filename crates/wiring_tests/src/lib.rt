@@ -1,4 +1,6 @@
 // The wirings and layers at work: somebody else's delivery, facts about whole piles, and tests against answers written by hand.
+#![tactic(auto)]
+
 #[cfg(test)]
 mod bottoms;
 mod facts;

@@ -1,4 +1,6 @@
 // The bottoms of piles of deliveries: one queue over any hold rule, and the four wirings made of it.
+#![tactic(auto)]
+
 pub mod bottoms;
 pub mod hold_rule;
 pub mod queue;

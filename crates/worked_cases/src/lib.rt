@@ -1,4 +1,6 @@
 // Charts to work by, over the wirings, with their reversible pairs and schedules; and ways to misread the order, each with a chart that refutes it.
+#![tactic(auto)]
+
 ghost use Rattle.worked_cases.specs.Cases.{WorkedCases};
 ghost use Rattle.worked_cases.specs.Misread.{Misreadings};
 ghost use Rattle.worked_cases.specs.Scheduled.{WorkedSchedules};

@@ -85,6 +85,6 @@ impl Chart {
     pub fn allocator(&self) -> Global
         ensures { result ≡ vec_allocator self.now.parts.events }
     {
-        self.parts.events.allocator()
+        *self.parts.events.allocator()
     }
 }

@@ -5,7 +5,7 @@ use Rattle.chart.proofs.lookup.find.Goals as goal
 pub loop-i-preserved : goal.loop-i-preserved
 loop-i-preserved g c =
     below_more _ _ c.loop-i.invariant
-    (read_at g.T.Named.called c.args.text.now c.args.items.now c.loop-i.i _ _ _ (omega arith) c.index-items-i.is c.called.ensures c.if-same-text.ensures)
+    (read_at g.T.Named.called c.args.text.now c.args.items.now c.loop-i.i _ _ _ (omega arith) c.index-items-i.is c.called.ensures c.if-same_text.ensures)
 
 pub returns-then-same-text : goal.returns-then-same-text
 returns-then-same-text g c =

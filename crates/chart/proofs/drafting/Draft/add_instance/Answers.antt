@@ -84,6 +84,6 @@ pub returns : goal.returns
 returns c =
     let p : Parts = c.args.self.now.parts in
     record {
-      answer = ap Ok (with_instance_lem p c.push-reserved.new.self c.args.name c.push-reserved.ensures.items) ∙ joined (content_of p) (text_of c.args.name) (omega (arith, instance_count p)) (told _ _ _ c.args.name _ _ _ c.args.self.now.instances_apart c.deref.ensures.value c.push-reserved.ensures.items c.first-repeat.ensures c.is-some.ensures c.if-is-some.false);
+      answer = ap Ok (with_instance_lem p c.push_reserved.new.self c.args.name c.push_reserved.ensures.items) ∙ joined (content_of p) (text_of c.args.name) (omega (arith, instance_count p)) (told _ _ _ c.args.name _ _ _ c.args.self.now.instances_apart c.deref.ensures.value c.push_reserved.ensures.items c.first_repeat.ensures c.is_some.ensures c.if-is-some.false);
       unchanged = tt;
     }

@@ -6,7 +6,7 @@ use Rattle.chart.proofs.Stored.{message_count}
 use Rattle.chart.proofs.drafting.Draft.all_received.Goals as goal
 
 pub loop-message-preserved : goal.loop-message-preserved
-loop-message-preserved c = below_more _ _ c.loop-message.invariant (sym c.if-not-is-received.ensures)
+loop-message-preserved c = below_more _ _ c.loop-message.invariant (sym c.if-not-is_received.ensures)
 
 pub returns-then-not-is-received : goal.returns-then-not-is-received
 returns-then-not-is-received c = sym (not_all_below (λ m. ltb 0 (times_received (drafted c.args.self.now) m)) (length (drafted c.args.self.now).messages) c.loop-message.message (omega (arith, message_count c.args.self.now.parts)) (sym c.if-not-is-received.ensures))

@@ -58,4 +58,4 @@ pub returns-then-not-all-received : goal.returns-then-not-all-received
 returns-then-not-all-received c = sym (cond-false _ _ _ (sym c.if-not-all-received.ensures))
 
 pub returns : goal.returns
-returns c = sym (cond-true _ _ _ (sym c.if-not-all-received.ensures))
+returns c = sym (cond-true _ _ _ (sym c.if-not-all_received.ensures))

@@ -47,6 +47,6 @@ invariant-of-self c =
 pub returns : goal.returns
 returns c =
     record {
-      answer = ap Ok (with_receipt_lem c.args.self.now.parts c.push-reserved.new.self c.args.message c.push-reserved.ensures.items) ∙ is_received_lem (drafted c.args.self.now) c.args.message.0 (omega (arith, message_count c.args.self.now.parts)) (sym c.if-is-received.ensures);
+      answer = ap Ok (with_receipt_lem c.args.self.now.parts c.push_reserved.new.self c.args.message c.push_reserved.ensures.items) ∙ is_received_lem (drafted c.args.self.now) c.args.message.0 (omega (arith, message_count c.args.self.now.parts)) (sym c.if-is_received.ensures);
       unchanged = tt;
     }

@@ -39,21 +39,21 @@ returns-then-count-ge-MESSAGE-LIMIT c =
 pub returns-then-sender-len : goal.returns-then-sender-len
 returns-then-sender-len c =
     record {
-      answer = no_sender (drafted c.args.self.now) (text_of c.args.name) c.args.sender.0 c.args.receiver.0 (named_so c.args.self.now.parts (text_of c.args.name) _ _ _ _ _ c.text.ensures c.deref.ensures.value c.find-message.ensures c.is-some.ensures c.if-is-some.false) (omega (arith, message_count c.args.self.now.parts)) (omega (arith, instance_count c.args.self.now.parts));
+      answer = no_sender (drafted c.args.self.now) (text_of c.args.name) c.args.sender.0 c.args.receiver.0 (named_so c.args.self.now.parts (text_of c.args.name) _ _ _ _ _ c.text.ensures c.deref.ensures.value c.find_message.ensures c.is_some.ensures c.if-is_some.false) (omega (arith, message_count c.args.self.now.parts)) (omega (arith, instance_count c.args.self.now.parts));
       number = refl;
     }
 
 pub returns-then-receiver-len : goal.returns-then-receiver-len
 returns-then-receiver-len c =
     record {
-      answer = no_receiver (drafted c.args.self.now) (text_of c.args.name) c.args.sender.0 c.args.receiver.0 (named_so c.args.self.now.parts (text_of c.args.name) _ _ _ _ _ c.text.ensures c.deref.ensures.value c.find-message.ensures c.is-some.ensures c.if-is-some.false) (omega (arith, message_count c.args.self.now.parts)) (omega (arith, instance_count c.args.self.now.parts)) (omega (arith, instance_count c.args.self.now.parts));
+      answer = no_receiver (drafted c.args.self.now) (text_of c.args.name) c.args.sender.0 c.args.receiver.0 (named_so c.args.self.now.parts (text_of c.args.name) _ _ _ _ _ c.text.ensures c.deref.ensures.value c.find_message.ensures c.is_some.ensures c.if-is_some.false) (omega (arith, message_count c.args.self.now.parts)) (omega (arith, instance_count c.args.self.now.parts)) (omega (arith, instance_count c.args.self.now.parts));
       number = refl;
     }
 
 pub returns-then-eq : goal.returns-then-eq
 returns-then-eq c =
     record {
-      answer = to_itself (drafted c.args.self.now) (text_of c.args.name) c.args.sender.0 c.args.receiver.0 (named_so c.args.self.now.parts (text_of c.args.name) _ _ _ _ _ c.text.ensures c.deref.ensures.value c.find-message.ensures c.is-some.ensures c.if-is-some.false) (omega (arith, message_count c.args.self.now.parts)) (omega (arith, instance_count c.args.self.now.parts)) (omega (arith, instance_count c.args.self.now.parts)) (c.eq.ensures.0 c.if-eq.true);
+      answer = to_itself (drafted c.args.self.now) (text_of c.args.name) c.args.sender.0 c.args.receiver.0 (named_so c.args.self.now.parts (text_of c.args.name) _ _ _ _ _ c.text.ensures c.deref.ensures.value c.find_message.ensures c.is_some.ensures c.if-is_some.false) (omega (arith, message_count c.args.self.now.parts)) (omega (arith, instance_count c.args.self.now.parts)) (omega (arith, instance_count c.args.self.now.parts)) (c.eq.ensures.0 c.if-eq.true);
       number = refl;
     }
 
@@ -78,6 +78,6 @@ invariant-of-self c =
 pub returns : goal.returns
 returns c =
     record {
-      answer = ap Ok (with_message_lem c.args.self.now.parts c.push-reserved.new.self c.push-reserved-2.new.self (record { name = c.args.name; sender = c.args.sender; receiver = c.args.receiver }) (record { 0 = c.len-count.result }) c.push-reserved.ensures.items c.push-reserved-2.ensures.items c.len-count.ensures) ∙ is_sent (drafted c.args.self.now) (text_of c.args.name) c.args.sender.0 c.args.receiver.0 (named_so c.args.self.now.parts (text_of c.args.name) _ _ _ _ _ c.text.ensures c.deref.ensures.value c.find-message.ensures c.is-some.ensures c.if-is-some.false) (omega (arith, message_count c.args.self.now.parts)) (omega (arith, instance_count c.args.self.now.parts)) (omega (arith, instance_count c.args.self.now.parts)) (not_from_Decides _ c.eq.ensures c.if-eq.false);
+      answer = ap Ok (with_message_lem c.args.self.now.parts c.push_reserved.new.self c.push_reserved-2.new.self (record { name = c.args.name; sender = c.args.sender; receiver = c.args.receiver }) (record { 0 = c.len-count.result }) c.push_reserved.ensures.items c.push_reserved-2.ensures.items c.len-count.ensures) ∙ is_sent (drafted c.args.self.now) (text_of c.args.name) c.args.sender.0 c.args.receiver.0 (named_so c.args.self.now.parts (text_of c.args.name) _ _ _ _ _ c.text.ensures c.deref.ensures.value c.find_message.ensures c.is-some.ensures c.if-is-some.false) (omega (arith, message_count c.args.self.now.parts)) (omega (arith, instance_count c.args.self.now.parts)) (omega (arith, instance_count c.args.self.now.parts)) (not_from_Decides _ c.eq.ensures c.if-eq.false);
       number = c.len-count.ensures ∙ sym (message_count c.args.self.now.parts);
     }

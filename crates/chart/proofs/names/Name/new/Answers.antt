@@ -21,4 +21,4 @@ invariant-of-result c = (
 )
 
 pub returns : goal.returns
-returns c = ap Ok (front _ c.args.text.now _ c.copy-from-slice.ensures.after) ∙ sym (accepted c.args.text.now (sym c.if-not-is-name-like.ensures) c.if-text-gt-NAME-LIMIT.false)
+returns c = ap Ok (front _ c.args.text.now _ c.copy_from_slice.ensures.after) ∙ sym (accepted c.args.text.now (sym c.if-not-is_name_like.ensures) c.if-text-gt-NAME_LIMIT.false)
