@@ -8,8 +8,8 @@ use Rattle.analysis.proofs.Asked.{chart_laws, as_many_messages}
 use Rattle.analysis.proofs.Filled.{covers_all, filled}
 use Rattle.analysis.proofs.filling.fill.Goals as goal
 
-pub fill-rows-requires : goal.fill-rows-requires
-fill-rows-requires g c =
+pub fill_rows-requires : goal.fill_rows-requires
+fill_rows-requires g c =
     let few = as_many_messages c.args.chart.now c.messages-messages.result.now c.messages-messages.ensures in
     record { inside = omega arith; within = c.loop-m.invariant.0; covers = c.loop-m.invariant.1 }
 
@@ -17,7 +17,7 @@ pub loop-m-init : goal.loop-m-init
 loop-m-init g c = ((λ e f t. absurd (both_ways _ (c.clear.ensures (place_of e) (place_of f)) t)), λ e f l d. absurd (omega arith))
 
 pub loop-m-preserved : goal.loop-m-preserved
-loop-m-preserved g c = (c.fill-rows.ensures.within, c.fill-rows.ensures.covers)
+loop-m-preserved g c = (c.fill_rows.ensures.within, c.fill_rows.ensures.covers)
 
 pub returns : goal.returns
 returns g c =

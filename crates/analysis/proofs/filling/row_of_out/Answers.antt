@@ -10,10 +10,10 @@ use Rattle.analysis.specs.Filling.{reaches}
 use Rattle.analysis.proofs.Asked.{chart_laws, small, as_many_events, event_read, event_known}
 use Rattle.analysis.proofs.Filled.{Passing, passing_none, passing_yes, passing_no, passing_stops, passing_all}
 use Rattle.analysis.proofs.filling.row_of_out.Goals as goal
-use Rattle.analysis.proofs.filling.row_of_out.Goals.{then-instance-of-sender, else-instance-of-sender}
+use Rattle.analysis.proofs.filling.row_of_out.Goals.{then-instance_of-sender, else-instance_of-sender}
 
-pub instance-of-requires : goal.instance-of-requires
-instance-of-requires g c = event_known c.args.chart.now c.events-event-items.result.now c.events-event-items.ensures c.loop-event.event-index _ c.loop-event-test.true
+pub instance_of-requires : goal.instance_of-requires
+instance_of-requires g c = event_known c.args.chart.now c.events-event-items.result.now c.events-event-items.ensures c.loop-event.event-index _ c.loop-event-test.true
 
 pub join-requires : goal.join-requires
 join-requires g c =
@@ -31,20 +31,20 @@ loop-event-preserved g c =
     let few = as_many_events c.args.chart.now c.events-event-items.result.now c.events-event-items.ensures in
     let l : i < length d.events = omega arith in
     let here = event_read c.args.chart.now c.events-event-items.result.now c.events-event-items.ensures i _ c.loop-event-test.true in
-    let other : is_sent n (event_at d i) ≡ false = subst (λ (f : Happening). is_sent n f ≡ false) here (sym c.if-is-out.ensures) in
-    let stands : c.instance-of.result.0 ≡ instance_of d (event_at d i) = c.instance-of.ensures ∙ ap (instance_of d) here in
-    elim c.if-instance-of-sender.branch [
-      | then-instance-of-sender w ↦
-          passing_yes d o n i l other c.loop-event.row c.if-instance-of-sender.row (sym stands ∙ w.if-instance-of-sender.true ∙ c.instance-of-sender.ensures)
+    let other : is_sent n (event_at d i) ≡ false = subst (λ (f : Happening). is_sent n f ≡ false) here (sym c.if-is_out.ensures) in
+    let stands : c.instance_of.result.0 ≡ instance_of d (event_at d i) = c.instance_of.ensures ∙ ap (instance_of d) here in
+    elim c.if-instance_of-sender.branch [
+      | then-instance_of-sender w ↦
+          passing_yes d o n i l other c.loop-event.row c.if-instance_of-sender.row (sym stands ∙ w.if-instance_of-sender.true ∙ c.instance_of-sender.ensures)
           (λ e. ap (λ (r : EventSet). has r (place_of e)) w.row-is ∙ w.join.ensures e ∙ ap (λ (f : Happening). has c.loop-event.row (place_of e) || reaches o e f) here)
           c.loop-event.invariant
-      | else-instance-of-sender w ↦
+      | else-instance_of-sender w ↦
           subst (λ (r : EventSet). Passing d o n r (i + 1)) (sym w.row-is)
-          (passing_no d o n i l other c.loop-event.row (λ e. w.if-instance-of-sender.false (stands ∙ e ∙ sym c.instance-of-sender.ensures)) c.loop-event.invariant)
+          (passing_no d o n i l other c.loop-event.row (λ e. w.if-instance_of-sender.false (stands ∙ e ∙ sym c.instance_of-sender.ensures)) c.loop-event.invariant)
     ]
 
-pub returns-then-is-out : goal.returns-then-is-out
-returns-then-is-out g c =
+pub returns-then-is_out : goal.returns-then-is_out
+returns-then-is_out g c =
     let chart = c.args.chart.now in
     let d = content chart in
     let n = c.args.message.0 in
@@ -53,7 +53,7 @@ returns-then-is-out g c =
     let few = as_many_events chart c.events-event-items.result.now c.events-event-items.ensures in
     let l : i < length d.events = omega arith in
     let here = event_read chart c.events-event-items.result.now c.events-event-items.ensures i _ c.loop-event-test.true in
-    let this : is_sent n (event_at d i) ≡ true = subst (λ (f : Happening). is_sent n f ≡ true) here (sym c.if-is-out.ensures) in
+    let this : is_sent n (event_at d i) ≡ true = subst (λ (f : Happening). is_sent n f ≡ true) here (sym c.if-is_out.ensures) in
     let law = chart_laws chart (g.D.Delivery.rule delivery) (g.D.Delivery.room delivery) (g.met.D.Delivery.transitive delivery) (g.met.D.Delivery.some delivery) in
     passing_stops d c.args.order.now n (g.D.Delivery.rule delivery) (g.D.Delivery.room delivery) (chart_laid chart) law c.requires c.loop-event.row i c.loop-event.invariant l this
 

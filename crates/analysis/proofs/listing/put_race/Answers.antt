@@ -41,41 +41,41 @@ name_short n t e =
 pub bounds-instances-race : goal.bounds-instances-race
 bounds-instances-race c = inside c.args.chart.now c.args.race c.requires.known c.instances.result.now c.instances.ensures
 
-pub put-number-place-requires : goal.put-number-place-requires
-put-number-place-requires c =
+pub put_number-place-requires : goal.put_number-place-requires
+put_number-place-requires c =
     let a = first_short c.args.chart.now c.args.race c.requires.known in
     omega (arith, c.requires.room, c.put-place.auto.buffer, c.put-place.ensures.place)
 
 pub put-place-requires-2 : goal.put-place-requires-2
 put-place-requires-2 c =
     let a = first_short c.args.chart.now c.args.race c.requires.known in
-    omega (arith, c.requires.room, c.put-place.auto.buffer, c.put-place.ensures.place, c.put-number-place.auto.buffer, c.put-number-place.ensures.place)
+    omega (arith, c.requires.room, c.put-place.auto.buffer, c.put-place.ensures.place, c.put_number-place.auto.buffer, c.put_number-place.ensures.place)
 
-pub put-number-place-requires-2 : goal.put-number-place-requires-2
-put-number-place-requires-2 c =
+pub put_number-place-requires-2 : goal.put_number-place-requires-2
+put_number-place-requires-2 c =
     let a = first_short c.args.chart.now c.args.race c.requires.known in
     let b = second_short c.args.chart.now c.args.race c.requires.known in
-    omega (arith, c.requires.room, c.put-place.auto.buffer, c.put-place.ensures.place, c.put-number-place.auto.buffer, c.put-number-place.ensures.place, c.put-place-2.auto.buffer, c.put-place-2.ensures.place)
+    omega (arith, c.requires.room, c.put-place.auto.buffer, c.put-place.ensures.place, c.put_number-place.auto.buffer, c.put_number-place.ensures.place, c.put-place-2.auto.buffer, c.put-place-2.ensures.place)
 
 pub put-place-requires-3 : goal.put-place-requires-3
 put-place-requires-3 c =
     let a = first_short c.args.chart.now c.args.race c.requires.known in
     let b = second_short c.args.chart.now c.args.race c.requires.known in
-    omega (arith, c.requires.room, c.put-place.auto.buffer, c.put-place.ensures.place, c.put-number-place.auto.buffer, c.put-number-place.ensures.place, c.put-place-2.auto.buffer, c.put-place-2.ensures.place, c.put-number-place-2.auto.buffer, c.put-number-place-2.ensures.place)
+    omega (arith, c.requires.room, c.put-place.auto.buffer, c.put-place.ensures.place, c.put_number-place.auto.buffer, c.put_number-place.ensures.place, c.put-place-2.auto.buffer, c.put-place-2.ensures.place, c.put_number-place-2.auto.buffer, c.put_number-place-2.ensures.place)
 
 pub put-place-requires-4 : goal.put-place-requires-4
 put-place-requires-4 c =
     let a = first_short c.args.chart.now c.args.race c.requires.known in
     let b = second_short c.args.chart.now c.args.race c.requires.known in
     let n = name_short c.index-instances-race.result c.text-name.result.now c.text-name.ensures in
-    omega (arith, c.requires.room, c.put-place.auto.buffer, c.put-place.ensures.place, c.put-number-place.auto.buffer, c.put-number-place.ensures.place, c.put-place-2.auto.buffer, c.put-place-2.ensures.place, c.put-number-place-2.auto.buffer, c.put-number-place-2.ensures.place, c.put-place-3.auto.buffer, c.put-place-3.ensures.place)
+    omega (arith, c.requires.room, c.put-place.auto.buffer, c.put-place.ensures.place, c.put_number-place.auto.buffer, c.put_number-place.ensures.place, c.put-place-2.auto.buffer, c.put-place-2.ensures.place, c.put_number-place-2.auto.buffer, c.put_number-place-2.ensures.place, c.put-place-3.auto.buffer, c.put-place-3.ensures.place)
 
 pub put-requires : goal.put-requires
 put-requires c =
     let a = first_short c.args.chart.now c.args.race c.requires.known in
     let b = second_short c.args.chart.now c.args.race c.requires.known in
     let n = name_short c.index-instances-race.result c.text-name.result.now c.text-name.ensures in
-    omega (arith, c.requires.room, c.put-place.auto.buffer, c.put-place.ensures.place, c.put-number-place.auto.buffer, c.put-number-place.ensures.place, c.put-place-2.auto.buffer, c.put-place-2.ensures.place, c.put-number-place-2.auto.buffer, c.put-number-place-2.ensures.place, c.put-place-3.auto.buffer, c.put-place-3.ensures.place, c.put-place-4.auto.buffer, c.put-place-4.ensures.place)
+    omega (arith, c.requires.room, c.put-place.auto.buffer, c.put-place.ensures.place, c.put_number-place.auto.buffer, c.put_number-place.ensures.place, c.put-place-2.auto.buffer, c.put-place-2.ensures.place, c.put_number-place-2.auto.buffer, c.put_number-place-2.ensures.place, c.put-place-3.auto.buffer, c.put-place-3.ensures.place, c.put-place-4.auto.buffer, c.put-place-4.ensures.place)
 
 pub returns : goal.returns
 returns c =
@@ -88,9 +88,9 @@ returns c =
     let old = c.args.buffer.now in
     let room = c.requires.room in
     let p₁ = c.put-place in
-    let p₂ = c.put-number-place in
+    let p₂ = c.put_number-place in
     let p₃ = c.put-place-2 in
-    let p₄ = c.put-number-place-2 in
+    let p₄ = c.put_number-place-2 in
     let p₅ = c.put-place-3 in
     let p₆ = c.put-place-4 in
     let e₁ = p₁.ensures.place in

@@ -10,8 +10,8 @@ unmade : {X Y : Type 0} (P : X → Type 0) (r : Result X Y) → is_err r ≡ tru
 unmade P (Ok x) e = absurd (false≢true e)
 unmade P (Err y) e = tt
 
-pub returns-in-err-push : goal.returns-in-err-push
-returns-in-err-push g c =
+pub returns-in_err-push : goal.returns-in_err-push
+returns-in_err-push g c =
     let d = c.args.delivery.now in
     record { lists = unmade _ c.from-residual.result c.from-residual.ensures.0; exact = exact_pairs c.args.chart.now _ _ (g.met.D.Delivery.transitive d) (g.met.D.Delivery.some d) }
 
@@ -19,7 +19,7 @@ pub returns : goal.returns
 returns g c =
     let d = c.args.delivery.now in
     let xs = races_of (content c.args.chart.now) (g.D.Delivery.rule d) (g.D.Delivery.room d) in
-    let all = c.in-default.ensures.gives.0 in
+    let all = c.in_default.ensures.gives.0 in
     record {
       lists = c.loop-race.invariant.1 ∙ take_all c.loop-race.walk.given xs (omega arith);
       exact = exact_pairs c.args.chart.now _ _ (g.met.D.Delivery.transitive d) (g.met.D.Delivery.some d);

@@ -9,15 +9,15 @@ use Rattle.analysis.proofs.walking.next_second.Goals as goal
 events_are : (chart : Chart) (xs : List Event) → xs ≡ vec_items chart.parts.events → length xs ≡ length (content chart).events
 events_are chart xs e = ap length e ∙ sym chart.parts.events.ok.0 ∙ sym (event_count chart.parts)
 
-pub is-race-requires : goal.is-race-requires
-is-race-requires g c =
+pub is_race-requires : goal.is_race-requires
+is_race-requires g c =
     let e = events_are c.args.chart.now c.events-events.result.now c.events-events.ensures in
-    record { filled = c.requires.filled; foreseen = c.requires.sweeps.foreseen; first-inside = c.requires.sweeps.inside; second-inside = subst (λ n. c.loop-number.number < n) e c.loop-number-test.true }
+    record { filled = c.requires.filled; foreseen = c.requires.sweeps.foreseen; first_inside = c.requires.sweeps.inside; second_inside = subst (λ n. c.loop-number.number < n) e c.loop-number-test.true }
 
-pub returns-then-is-race : goal.returns-then-is-race
-returns-then-is-race g c =
+pub returns-then-is_race : goal.returns-then-is_race
+returns-then-is_race g c =
     let e = events_are c.args.chart.now c.events-events.result.now c.events-events.ensures in
-    (c.loop-number.auto.number, subst (λ n. c.loop-number.number < n) e c.loop-number-test.true, sym c.if-is-race.ensures, c.loop-number.invariant)
+    (c.loop-number.auto.number, subst (λ n. c.loop-number.number < n) e c.loop-number-test.true, sym c.if-is_race.ensures, c.loop-number.invariant)
 
 -- one number more
 one_more : (q : ℕ → Bool) (low n : ℕ) → ((y : ℕ) → low ≤ y → y < n → q y ≡ false) → q n ≡ false → (y : ℕ) → low ≤ y → y < n + 1 → q y ≡ false
@@ -27,7 +27,7 @@ one_more q low n before here y l b = elim (below_suc y n (rw add-one at b)) [
 ]
 
 pub loop-number-preserved : goal.loop-number-preserved
-loop-number-preserved g c = one_more _ _ _ c.loop-number.invariant (sym c.if-is-race.ensures)
+loop-number-preserved g c = one_more _ _ _ c.loop-number.invariant (sym c.if-is_race.ensures)
 
 pub returns : goal.returns
 returns g c =

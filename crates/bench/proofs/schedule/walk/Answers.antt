@@ -20,15 +20,15 @@ loop-k-preserved c =
     let low : k < length (decoded bs) = omega arith in
     let last : 2 * k + 1 < length bs = omega arith in
     let is = decoded_at bs k last in (
-      omega (arith, c.push-reserved.ensures.len, inv.0),
-      c.push-reserved.ensures.capacity ∙ inv.1,
-      c.push-reserved.ensures.items ∙ ap (λ v. v ++ entry (get_or bs (2 * k) 0) (get_or bs (2 * k + 1) 0) ∷ []) inv.2
+      omega (arith, c.push_reserved.ensures.len, inv.0),
+      c.push_reserved.ensures.capacity ∙ inv.1,
+      c.push_reserved.ensures.items ∙ ap (λ v. v ++ entry (get_or bs (2 * k) 0) (get_or bs (2 * k + 1) 0) ∷ []) inv.2
           ∙ ap (λ (x : Entry). take k (decoded bs) ++ x ∷ []) is ∙ sym (take_more (decoded bs) k (entry 0 0) low),
-      λ content copy. below_more _ _ (inv.3 content copy) (ap (fits content) (sym is) ∙ sym (c.is-fit.ensures content copy) ∙ c.if-not-is-fit.false),
+      λ content copy. below_more _ _ (inv.3 content copy) (ap (fits content) (sym is) ∙ sym (c.is_fit.ensures content copy) ∙ c.if-not-is_fit.false),
     )
 
-pub returns-then-not-is-fit : goal.returns-then-not-is-fit
-returns-then-not-is-fit c =
+pub returns-then-not-is_fit : goal.returns-then-not-is_fit
+returns-then-not-is_fit c =
     let bs = c.args.schedule.now in
     let k = c.loop-k.k in
     let inv = c.loop-k.invariant in
@@ -38,7 +38,7 @@ returns-then-not-is-fit c =
     let is = decoded_at bs k last in
     record {
       room = inv.1;
-      walks = λ content copy. (omega arith, inv.2, ap (fits content) (sym is) ∙ sym (c.is-fit.ensures content copy) ∙ c.if-not-is-fit.true, inv.3 content copy);
+      walks = λ content copy. (omega arith, inv.2, ap (fits content) (sym is) ∙ sym (c.is_fit.ensures content copy) ∙ c.if-not-is_fit.true, inv.3 content copy);
     }
 
 pub returns : goal.returns

@@ -7,10 +7,10 @@ loop-i-preserved g c =
     below_more _ _ c.loop-i.invariant
     (read_at g.T.Named.called c.args.text.now c.args.items.now c.loop-i.i _ _ _ (omega arith) c.index-items-i.is c.called.ensures c.if-same_text.ensures)
 
-pub returns-then-same-text : goal.returns-then-same-text
-returns-then-same-text g c =
+pub returns-then-same_text : goal.returns-then-same_text
+returns-then-same_text g c =
     sym (seek_at g.T.Named.called c.args.text.now c.args.items.now c.loop-i.i (omega arith) c.loop-i.invariant
-    (read_at g.T.Named.called c.args.text.now c.args.items.now c.loop-i.i _ _ _ (omega arith) c.index-items-i.is c.called.ensures c.if-same-text.ensures))
+    (read_at g.T.Named.called c.args.text.now c.args.items.now c.loop-i.i _ _ _ (omega arith) c.index-items-i.is c.called.ensures c.if-same_text.ensures))
 
 pub returns : goal.returns
 returns g c =

@@ -60,11 +60,11 @@ module _ (chart : Chart) (m : ℕ) (xs : List Message) (is : xs ≡ vec_items ch
     between None far = absurd (too_far far)
     between (Some t) same = known t.sender t.receiver same.0 same.1
 
-pub returns-in-err-ends : goal.returns-in-err-ends
-returns-in-err-ends c =
-    c.from-residual.ensures ∙ sym (unknown c.args.chart.now c.args.message.0 c.messages.result.now c.messages.ensures c.in-err-ends.ensures.lookup.3)
+pub returns-in_err-ends : goal.returns-in_err-ends
+returns-in_err-ends c =
+    c.from-residual.ensures ∙ sym (unknown c.args.chart.now c.args.message.0 c.messages.result.now c.messages.ensures c.in_err-ends.ensures.lookup.3)
 
 pub returns : goal.returns
 returns c =
-    let f = c.in-ok-ends.ensures.lookup in
-    between c.args.chart.now c.args.message.0 c.messages.result.now c.messages.ensures c.in-ok-ends.ends.now f.3.0 f.1 c.tag-between.result c.tag-between.ensures
+    let f = c.in_ok-ends.ensures.lookup in
+    between c.args.chart.now c.args.message.0 c.messages.result.now c.messages.ensures c.in_ok-ends.ends.now f.3.0 f.1 c.tag_between.result c.tag_between.ensures

@@ -11,9 +11,9 @@ loop-call-init g c =
 pub loop-call-preserved : goal.loop-call-preserved
 loop-call-preserved g c =
     let i = c.loop-call.invariant in
-    let e = c.perform-one-answer.ensures in
+    let e = c.perform_one-answer.ensures in
     let m = e.makes in
-    let p = c.push-reserved.ensures in
+    let p = c.push_reserved.ensures in
     let l : c.loop-call.call-index < length c.args.calls.now = c.loop-call-test.true in
     (same_on g.D.Delivery _ _ _ i.0 e.same, (λ d s. e.sound d (i.1 d s)), e.room ∙ i.2, omega (arith, e.count, i.3), p.capacity ∙ i.4, omega (arith, p.len, i.5), λ d s. one_more g.D.Delivery d _ _ i.0 (i.6 d s) (m d (i.1 d s)) (take_more _ _ _ l) p.items)
 

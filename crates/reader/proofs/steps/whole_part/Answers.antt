@@ -23,25 +23,25 @@ at_variant s v d r is h = sym (ap (λ x. Ok (step_by x d)) is) ∙ h
 pub loop-after-init : goal.loop-after-init
 loop-after-init c = (suc (length c.args.rest.now), omega arith, refl)
 
-pub returns-in-err-after : goal.returns-in-err-after
-returns-in-err-after c =
+pub returns-in_err-after : goal.returns-in_err-after
+returns-in_err-after c =
     let p = err_from_is_err_and c.from-residual.result c.from-residual.ensures.1 in
     rw (p.1, p.2)
-    (sym (unroll c.args.part c.loop-after.invariant.0 c.args.whole (drafted c.loop-after.draft) c.loop-after.unread.now (Err c.in-err-after.field-0.0) c.loop-after.invariant.1 c.in-err-after.ensures).2 ∙ c.loop-after.invariant.2)
+    (sym (unroll c.args.part c.loop-after.invariant.0 c.args.whole (drafted c.loop-after.draft) c.loop-after.unread.now (Err c.in_err-after.field-0.0) c.loop-after.invariant.1 c.in_err-after.ensures).2 ∙ c.loop-after.invariant.2)
 
 pub loop-after-smaller : goal.loop-after-smaller
 loop-after-smaller c =
-    step_shorter c.args.part c.args.whole (drafted c.loop-after.draft) c.loop-after.unread.now (drafted c.next-step.new.draft) c.in-More.after.now
-    (sym (at_variant _ _ (drafted c.next-step.new.draft) (step_of c.args.part c.args.whole (drafted c.loop-after.draft) c.loop-after.unread.now) c.in-More.is c.in-ok-after.ensures))
+    step_shorter c.args.part c.args.whole (drafted c.loop-after.draft) c.loop-after.unread.now (drafted c.next_step.new.draft) c.in-More.after.now
+    (sym (at_variant _ _ (drafted c.next_step.new.draft) (step_of c.args.part c.args.whole (drafted c.loop-after.draft) c.loop-after.unread.now) c.in-More.is c.in_ok-after.ensures))
 
 pub loop-after-preserved : goal.loop-after-preserved
 loop-after-preserved c =
-    let e = at_variant _ _ (drafted c.next-step.new.draft) (step_of c.args.part c.args.whole (drafted c.loop-after.draft) c.loop-after.unread.now) c.in-More.is c.in-ok-after.ensures in
-    let less = step_shorter c.args.part c.args.whole (drafted c.loop-after.draft) c.loop-after.unread.now (drafted c.next-step.new.draft) c.in-More.after.now (sym e) in
+    let e = at_variant _ _ (drafted c.next_step.new.draft) (step_of c.args.part c.args.whole (drafted c.loop-after.draft) c.loop-after.unread.now) c.in-More.is c.in_ok-after.ensures in
+    let less = step_shorter c.args.part c.args.whole (drafted c.loop-after.draft) c.loop-after.unread.now (drafted c.next_step.new.draft) c.in-More.after.now (sym e) in
     let u = unroll c.args.part c.loop-after.invariant.0 c.args.whole (drafted c.loop-after.draft) c.loop-after.unread.now _ c.loop-after.invariant.1 e in
     (u.0, omega (arith, u.1, less, c.loop-after.invariant.1), sym u.2 ∙ c.loop-after.invariant.2)
 
 pub returns-in-Ended : goal.returns-in-Ended
 returns-in-Ended c =
-    let e = at_variant _ _ (drafted c.next-step.new.draft) (step_of c.args.part c.args.whole (drafted c.loop-after.draft) c.loop-after.unread.now) c.in-Ended.is c.in-ok-after.ensures in
+    let e = at_variant _ _ (drafted c.next_step.new.draft) (step_of c.args.part c.args.whole (drafted c.loop-after.draft) c.loop-after.unread.now) c.in-Ended.is c.in_ok-after.ensures in
     sym (unroll c.args.part c.loop-after.invariant.0 c.args.whole (drafted c.loop-after.draft) c.loop-after.unread.now _ c.loop-after.invariant.1 e).2 ∙ c.loop-after.invariant.2

@@ -4,7 +4,7 @@ use Rattle.rehearse_wired.specs.Sending.{put_refusal_words}
 use Rattle.rehearse_wired.proofs.sending.put_refusal_words.Goals as goal
 
 pub returns-in-Far : goal.returns-in-Far
-returns-in-Far c = subst (λ (e : PutRefusal). IfOk c.refused-words.result (λ s. string_bytes s ≡ put_refusal_words e)) (sym c.in-Far.is) c.refused-words.ensures
+returns-in-Far c = subst (λ (e : PutRefusal). IfOk c.refused_words.result (λ s. string_bytes s ≡ put_refusal_words e)) (sym c.in-Far.is) c.refused_words.ensures
 
 pub returns-in-Double : goal.returns-in-Double
-returns-in-Double c = subst (λ (e : PutRefusal). IfOk c.refused-words-in-Double.result (λ s. string_bytes s ≡ put_refusal_words e)) (sym c.in-Double.is) c.refused-words-in-Double.ensures
+returns-in-Double c = subst (λ (e : PutRefusal). IfOk c.refused_words-in-Double.result (λ s. string_bytes s ≡ put_refusal_words e)) (sym c.in-Double.is) c.refused_words-in-Double.ensures

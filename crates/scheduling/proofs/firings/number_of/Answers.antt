@@ -5,13 +5,13 @@ use Rattle.scheduling.proofs.firings.number_of.Goals as goal
 pub loop-i-init : goal.loop-i-init
 loop-i-init c = number_begins c.args.chart.now (happening c.args.event) c.events-events.result.now c.events-events.ensures
 
-pub returns-then-is-same : goal.returns-then-is-same
-returns-then-is-same c =
-    number_found c.args.chart.now (happening c.args.event) c.events-events.result.now c.events-events.ensures c.loop-i.i _ c.loop-i-test.true c.loop-i.invariant c.if-is-same.ensures
+pub returns-then-is_same : goal.returns-then-is_same
+returns-then-is_same c =
+    number_found c.args.chart.now (happening c.args.event) c.events-events.result.now c.events-events.ensures c.loop-i.i _ c.loop-i-test.true c.loop-i.invariant c.if-is_same.ensures
 
 pub loop-i-preserved : goal.loop-i-preserved
 loop-i-preserved c =
-    number_later c.args.chart.now (happening c.args.event) c.events-events.result.now c.events-events.ensures c.loop-i.i _ c.loop-i-test.true c.loop-i.invariant c.if-is-same.ensures
+    number_later c.args.chart.now (happening c.args.event) c.events-events.result.now c.events-events.ensures c.loop-i.i _ c.loop-i-test.true c.loop-i.invariant c.if-is_same.ensures
 
 pub returns : goal.returns
 returns c =

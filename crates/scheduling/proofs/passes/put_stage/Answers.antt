@@ -8,8 +8,8 @@ use Rattle.scheduling.proofs.passes.put_stage.Goals as goal
 pub loop-h-init : goal.loop-h-init
 loop-h-init c = (pasted_none c.args.buffer.now c.args.at, omega arith)
 
-pub put-turn-place-requires : goal.put-turn-place-requires
-put-turn-place-requires c =
+pub put_turn-place-requires : goal.put_turn-place-requires
+put_turn-place-requires c =
     let chart = c.args.chart.now in
     let e = as_many_messages chart c.messages-h-end.result.now c.messages-h-end.ensures in
     let b = c.loop-h-test.true in
@@ -26,8 +26,8 @@ loop-h-preserved c =
     let l : c.loop-h.h < length (content chart).messages = omega arith in
     let k =
     put_next (content chart) c.args.outlook.now c.args.stage c.loop-h.h (length (content chart).messages) l
-    c.args.buffer.now c.loop-h.buffer c.put-turn-place.new.buffer c.args.at c.loop-h.place c.put-turn-place.result c.requires
-    (record { pasted = c.loop-h.invariant.0; place = c.loop-h.invariant.1 }) (record { pasted = c.put-turn-place.ensures.pasted; place = c.put-turn-place.ensures.place }) in
+    c.args.buffer.now c.loop-h.buffer c.put_turn-place.new.buffer c.args.at c.loop-h.place c.put_turn-place.result c.requires
+    (record { pasted = c.loop-h.invariant.0; place = c.loop-h.invariant.1 }) (record { pasted = c.put_turn-place.ensures.pasted; place = c.put_turn-place.ensures.place }) in
     (k.pasted, k.place)
 
 pub returns : goal.returns

@@ -10,8 +10,8 @@ returns-then-buffer-events g c =
     let l = c.if-buffer-events.true in
     (v.0, v.1, omega arith, refl)
 
-pub put-all-requires : goal.put-all-requires
-put-all-requires g c =
+pub put_all-requires : goal.put_all-requires
+put_all-requires g c =
     let d = c.args.delivery.now in
     let v = c.in-Reversible.ensures in
     let e = as_many_events c.args.chart.now c.events-events.result.now c.events-events.ensures in
@@ -29,4 +29,4 @@ returns g c =
     let l = c.if-buffer-events.false in
     gives c.args.chart.now (g.D.Delivery.rule d) (g.D.Delivery.room d) (g.met.D.Delivery.transitive d) (g.met.D.Delivery.some d)
     c.args.first.0 c.args.second.0 v.0 v.1 c.in-Reversible.outlook v.2
-    c.args.buffer.now c.put-all.new.buffer _ (omega arith) c.put-all.ensures (sym e)
+    c.args.buffer.now c.put_all.new.buffer _ (omega arith) c.put_all.ensures (sym e)

@@ -9,7 +9,7 @@ use Rattle.bench.proofs.layout.Layout.copy.Goals as goal
 
 pub loop-i-init : goal.loop-i-init
 loop-i-init c =
-    let made = c.in-ok-places.ensures in
+    let made = c.in_ok-places.ensures in
     let chart = c.args.chart.now in
     let count = ap length c.events-count.ensures in
     let few : vec_len chart.parts.events ≤ 128 = chart.few_events in
@@ -21,11 +21,11 @@ loop-i-preserved c =
     let says = content c.args.chart.now in
     let inv = c.loop-i.invariant in
     let low : c.loop-i.i < length says.events = omega (arith, inv.3) in (
-      c.push-reserved.ensures.items ∙ ap (λ v. v ++ c.place-of.result ∷ []) inv.0
-          ∙ ap (λ (p : Placed). map (placed says) (take c.loop-i.i says.events) ++ p ∷ []) c.place-of.ensures
+      c.push_reserved.ensures.items ∙ ap (λ v. v ++ c.place_of.result ∷ []) inv.0
+          ∙ ap (λ (p : Placed). map (placed says) (take c.loop-i.i says.events) ++ p ∷ []) c.place_of.ensures
           ∙ sym (map_more (placed says) says.events c.loop-i.i (sent 0) low),
-      omega (arith, c.push-reserved.ensures.len, inv.1),
-      omega (arith, c.push-reserved.ensures.capacity, inv.2),
+      omega (arith, c.push_reserved.ensures.len, inv.1),
+      omega (arith, c.push_reserved.ensures.capacity, inv.2),
       inv.3,
       inv.4,
     )

@@ -9,11 +9,11 @@ loop-i-init c = λ content copy instance k l j. omega arith
 pub loop-i-preserved : goal.loop-i-preserved
 loop-i-preserved c = λ content copy instance.
     below_more _ _ (c.loop-i.invariant content copy instance)
-    (λ k. both_ways c.is-missing.result c.if-is-missing.false (c.is-missing.ensures content copy ∙ lacks_shown content c.args.fired.now c.args.event (record { 0 = c.loop-i.i }) c.args.instance.0 instance k))
+    (λ k. both_ways c.is_missing.result c.if-is_missing.false (c.is_missing.ensures content copy ∙ lacks_shown content c.args.fired.now c.args.event (record { 0 = c.loop-i.i }) c.args.instance.0 instance k))
 
-pub returns-then-is-missing : goal.returns-then-is-missing
-returns-then-is-missing c = λ content copy instance. (
-  shown_lacks content c.args.fired.now c.args.event (record { 0 = c.loop-i.i }) c.args.instance.0 instance c.loop-i-test.true (c.if-is-missing.ensures content copy),
+pub returns-then-is_missing : goal.returns-then-is_missing
+returns-then-is_missing c = λ content copy instance. (
+  shown_lacks content c.args.fired.now c.args.event (record { 0 = c.loop-i.i }) c.args.instance.0 instance c.loop-i-test.true (c.if-is_missing.ensures content copy),
   λ y l k. c.loop-i.invariant content copy instance y.0 l k,
 )
 

@@ -17,7 +17,7 @@ pub returns-then-eq : goal.returns-then-eq
 returns-then-eq c = λ content copy.
     let at = here c.args.self.now c.args.event.0 c.index.result.now c.requires c.index.ensures content copy in
     let same : eqb (instance_of content (event_at content c.args.event.0)) c.args.instance.0 ≡ true = eq-eqb _ _ (sym at ∙ c.eq.ensures.0 c.if-eq.true) in
-    ap not c.has-fired.ensures ∙ sym (ap (λ b. b && not (fired_in c.args.event.0 c.args.fired.now)) same)
+    ap not c.has_fired.ensures ∙ sym (ap (λ b. b && not (fired_in c.args.event.0 c.args.fired.now)) same)
 
 pub returns-else-eq : goal.returns-else-eq
 returns-else-eq c = λ content copy.

@@ -27,14 +27,14 @@ beyond_play v done n is l = let k = v.ok.0 in omega arith
 next_read : (v : Vec Entry Global) (done : ℕ) (x : Entry) → done < length (vec_items v) → x ≡ get_or (vec_items v) done x → x.event ≡ next_of (play_of v done)
 next_read v done x l is = ap (λ (y : Entry). y.event) (get_or_read (vec_items v) done x l is (entry 0 0))
 
-pub returns-in-default : goal.returns-in-default
-returns-in-default g c =
+pub returns-in_default : goal.returns-in_default
+returns-in_default g c =
     let this = c.args.self.now in
     record {
       same = unmoved g.D.Delivery this;
       sound = λ content s. s;
       advances = λ content s.
-          (no_play (stage_of g.D.Delivery content this) (state_of g.D.Delivery this) (state_of g.D.Delivery this).play (ap (λ k. play_at k (vec_items this.play)) c.in-default.is), refl);
+          (no_play (stage_of g.D.Delivery content this) (state_of g.D.Delivery this) (state_of g.D.Delivery this).play (ap (λ k. play_at k (vec_items this.play)) c.in_default.is), refl);
     }
 
 pub returns-then-done-len : goal.returns-then-done-len
@@ -57,13 +57,13 @@ returns-then-done-len g c =
 pub returns-in-Ok : goal.returns-in-Ok
 returns-in-Ok g c =
     let this = c.args.self.now in
-    let after = c.fire-next.new.self in
+    let after = c.fire_next.new.self in
     let done = c.in-Some.done in
     let open_at = ap (λ k. play_at k (vec_items this.play)) c.in-Some.is in
     let low = within_play this.play done c.len.result c.len.ensures c.if-done-len.false in
     let e = c.index.result.now.event in
     let next : e ≡ next_of (play_of this.play done) = next_read this.play done c.index.result.now low c.index.ensures in
-    let fired = c.fire-next.ensures in
+    let fired = c.fire_next.ensures in
     let copied : vec_items after.play ≡ vec_items this.play = ap (λ (v : Vec Entry Global). vec_items v) fired.play in
     record {
       same = record { layout = fired.same.layout; rule = fired.same.rule; room = fired.same.room; layer = fired.same.layer };
@@ -89,12 +89,12 @@ returns-in-Ok g c =
 pub returns-in-Err : goal.returns-in-Err
 returns-in-Err g c =
     let this = c.args.self.now in
-    let after = c.fire-next.new.self in
+    let after = c.fire_next.new.self in
     let done = c.in-Some.done in
     let open_at = ap (λ k. play_at k (vec_items this.play)) c.in-Some.is in
     let low = within_play this.play done c.len.result c.len.ensures c.if-done-len.false in
     let next : c.index.result.now.event ≡ next_of (play_of this.play done) = next_read this.play done c.index.result.now low c.index.ensures in
-    let fired = c.fire-next.ensures in
+    let fired = c.fire_next.ensures in
     record {
       same = fired.same;
       sound = λ content s. unchanged g.D.Delivery content this after s fired.same (fired.starts s.started) (c.in-Err.ensures.fires content s).1;

@@ -39,72 +39,72 @@ module _ (c : Content) (e : EventId) (p : Placed) (is : p ≡ placed c (event_at
       both_ways (listed (sent p.line.message.0) (happenings c r)) t
       (to_true _ (has_listed (sent p.line.message.0) (happenings c r) (reverse_has (sent p.line.message.0) (happenings c r) (subst (λ n. Has (sent n) (past c r)) (sym number) h))))
 
-pub returns-then-has-fired : goal.returns-then-has-fired
-returns-then-has-fired g c =
+pub returns-then-has_fired : goal.returns-then-has_fired
+returns-then-has_fired g c =
     let e = c.args.event in
     let r = vec_items c.args.self.now.fired in
     record {
       fresh = tt;
-      says = λ st w play copy is. in_record st (record { fired = r; waiting = w; play = play }) e (event_at st.chart e.0) (in_has e r (tested (fired_in e.0) c.has-fired.ensures c.deref.ensures.value c.if-has-fired.true));
+      says = λ st w play copy is. in_record st (record { fired = r; waiting = w; play = play }) e (event_at st.chart e.0) (in_has e r (tested (fired_in e.0) c.has_fired.ensures c.deref.ensures.value c.if-has_fired.true));
     }
 
-pub returns-in-err-first : goal.returns-in-err-first
-returns-in-err-first g c =
+pub returns-in_err-first : goal.returns-in_err-first
+returns-in_err-first g c =
     let e = c.args.event in
     let r = vec_items c.args.self.now.fired in
-    let fresh = tested (fired_in e.0) c.has-fired.ensures c.deref.ensures.value c.if-has-fired.false in
+    let fresh = tested (fired_in e.0) c.has_fired.ensures c.deref.ensures.value c.if-has_fired.false in
     record {
       fresh = subst (λ (o : Option Obstacle). IfNone o (fired_in e.0 r ≡ false)) (sym c.from-residual.ensures) fresh;
       says = λ st w play copy is.
           let h = event_at st.chart e.0 in
           let s : State = record { fired = r; waiting = w; play = play } in
           let side = sym (ap (λ (q : Placed). q.line.side) is) ∙ c.in-Out.is in
-          let none = c.in-err-first.ensures st.chart copy (instance_at st.chart e c.args.place is) in
+          let none = c.in_err-first.ensures st.chart copy (instance_at st.chart e c.args.place is) in
           subst (λ (o : Option Obstacle). Against st s e h o) (sym c.from-residual.ensures)
           (none_above st s e (not_in e r fresh) h side (subst (λ q. (x : EventId) → Lacks st.chart q e x → ⊥) c.deref-in-Out.ensures.value none));
     }
 
-pub returns-in-ok-first : goal.returns-in-ok-first
-returns-in-ok-first g c =
+pub returns-in_ok-first : goal.returns-in_ok-first
+returns-in_ok-first g c =
     let e = c.args.event in
     let r = vec_items c.args.self.now.fired in
-    let fresh = tested (fired_in e.0) c.has-fired.ensures c.deref.ensures.value c.if-has-fired.false in
+    let fresh = tested (fired_in e.0) c.has_fired.ensures c.deref.ensures.value c.if-has_fired.false in
     record {
       fresh = tt;
       says = λ st w play copy is.
           let h = event_at st.chart e.0 in
           let s : State = record { fired = r; waiting = w; play = play } in
           let side = sym (ap (λ (q : Placed). q.line.side) is) ∙ c.in-Out.is in
-          let first = c.in-ok-first.ensures st.chart copy (instance_at st.chart e c.args.place is) in
-          above_missing st s e (not_in e r fresh) h c.in-ok-first.first side (subst (λ q. FirstLacking st.chart q e c.in-ok-first.first) c.deref-in-Out.ensures.value first);
+          let first = c.in_ok-first.ensures st.chart copy (instance_at st.chart e c.args.place is) in
+          above_missing st s e (not_in e r fresh) h c.in_ok-first.first side (subst (λ q. FirstLacking st.chart q e c.in_ok-first.first) c.deref-in-Out.ensures.value first);
     }
 
-pub returns-then-was-sent : goal.returns-then-was-sent
-returns-then-was-sent g c =
+pub returns-then-was_sent : goal.returns-then-was_sent
+returns-then-was_sent g c =
     let e = c.args.event in
     let r = vec_items c.args.self.now.fired in
-    let fresh = tested (fired_in e.0) c.has-fired.ensures c.deref.ensures.value c.if-has-fired.false in
+    let fresh = tested (fired_in e.0) c.has_fired.ensures c.deref.ensures.value c.if-has_fired.false in
     record {
       fresh = fresh;
       says = λ st w play copy is.
           let h = event_at st.chart e.0 in
           let s : State = record { fired = r; waiting = w; play = play } in
           let side = sym (ap (λ (q : Placed). q.line.side) is) ∙ c.in-In.is in
-          let sent-off = tested (λ q. listed (sent c.args.place.line.message.0) (happenings st.chart q)) (c.was_sent.ensures st.chart copy) c.deref-in-In.ensures.value c.if-was-sent.true in
+          let sent-off = tested (λ q. listed (sent c.args.place.line.message.0) (happenings st.chart q)) (c.was_sent.ensures st.chart copy) c.deref-in-In.ensures.value c.if-was_sent.true in
           out_there st s e (not_in e r fresh) h side (there st.chart e c.args.place is r sent-off);
     }
 
-pub returns-else-was-sent : goal.returns-else-was-sent
-returns-else-was-sent g c =
+pub returns-else-was_sent : goal.returns-else-was_sent
+returns-else-was_sent g c =
     let e = c.args.event in
     let r = vec_items c.args.self.now.fired in
-    let fresh = tested (fired_in e.0) c.has-fired.ensures c.deref.ensures.value c.if-has-fired.false in
+    let fresh = tested (fired_in e.0) c.has_fired.ensures c.deref.ensures.value c.if-has_fired.false in
     record {
       fresh = tt;
       says = λ st w play copy is.
           let h = event_at st.chart e.0 in
           let s : State = record { fired = r; waiting = w; play = play } in
           let side = sym (ap (λ (q : Placed). q.line.side) is) ∙ c.in-In.is in
-          let sent-off = tested (λ q. listed (sent c.args.place.line.message.0) (happenings st.chart q)) (c.was_sent.ensures st.chart copy) c.deref-in-In.ensures.value c.if-was-sent.false in
+          let sent-off = tested (λ q. listed (sent c.args.place.line.message.0) (happenings st.chart q)) (c.was_sent.ensures st.chart copy) c.deref-in-In.ensures.value c.if-was_sent.false in
           out_missing st s e (not_in e r fresh) h side (missing st.chart e c.args.place is r sent-off);
     }

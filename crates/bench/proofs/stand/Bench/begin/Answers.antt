@@ -18,32 +18,32 @@ unseen k es fs closed = ap (λ j. play_at j es) (none_from k closed) ∙ sym (ap
 emptied : (v : Vec EventId Global) (b : Bool) → b ≡ eqb (vec_len v) 0 → b ≡ true → vec_items v ≡ []
 emptied v b is left = nil_from_length (vec_items v) (sym v.ok.0 ∙ eqb-true (vec_len v) 0 (sym is ∙ left))
 
-pub returns-then-is-some : goal.returns-then-is-some
-returns-then-is-some g c =
+pub returns-then-is_some : goal.returns-then-is_some
+returns-then-is_some g c =
     let this = c.args.self.now in
-    let playing = opened this.next (vec_items this.play) c.is-some.result c.is-some.ensures c.if-is-some.true in
+    let playing = opened this.next (vec_items this.play) c.is_some.result c.is_some.ensures c.if-is_some.true in
     record {
       same = unmoved g.D.Delivery this;
       sound = λ content s. s;
       begins = λ content s. (first_of_all (BarsBegin (stage_of g.D.Delivery content this) (state_of g.D.Delivery this) c.args.schedule.now) playing, refl);
     }
 
-pub returns-then-not-is-empty : goal.returns-then-not-is-empty
-returns-then-not-is-empty g c =
+pub returns-then-not-is_empty : goal.returns-then-not-is_empty
+returns-then-not-is_empty g c =
     let this = c.args.self.now in
-    let closed = shut this.next (vec_items this.play) c.is-some.result c.is-some.ensures c.if-is-some.false in
-    let some = eqb-false (vec_len this.fired) 0 (sym c.is-empty.ensures ∙ c.if-not-is-empty.true) in
+    let closed = shut this.next (vec_items this.play) c.is_some.result c.is_some.ensures c.if-is_some.false in
+    let some = eqb-false (vec_len this.fired) 0 (sym c.is_empty.ensures ∙ c.if-not-is_empty.true) in
     record {
       same = unmoved g.D.Delivery this;
       sound = λ content s. s;
       begins = λ content s. (begin_filled (stage_of g.D.Delivery content this) (state_of g.D.Delivery this) c.args.schedule.now closed (λ e. some (this.fired.ok.0 ∙ ap length e)), refl);
     }
 
-pub returns-then-not-has-records : goal.returns-then-not-has-records
-returns-then-not-has-records g c =
+pub returns-then-not-has_records : goal.returns-then-not-has_records
+returns-then-not-has_records g c =
     let this = c.args.self.now in
-    let closed = shut this.next (vec_items this.play) c.is-some.result c.is-some.ensures c.if-is-some.false in
-    let none = emptied this.fired c.is-empty.result c.is-empty.ensures c.if-not-is-empty.false in
+    let closed = shut this.next (vec_items this.play) c.is_some.result c.is_some.ensures c.if-is_some.false in
+    let none = emptied this.fired c.is_empty.result c.is_empty.ensures c.if-not-is_empty.false in
     record {
       same = unmoved g.D.Delivery this;
       sound = λ content s. s;
@@ -51,16 +51,16 @@ returns-then-not-has-records g c =
           let n = copy_length content (vec_items this.layout.places) s.copy in
           let m = this.layout.places.ok.0 in
           let k = c.len.ensures in
-          let wrong = eqb-false (length c.args.schedule.now) (2 * c.len.result) (sym c.has-records.ensures ∙ c.if-not-has-records.true) in
+          let wrong = eqb-false (length c.args.schedule.now) (2 * c.len.result) (sym c.has_records.ensures ∙ c.if-not-has_records.true) in
           (begin_bad (stage_of g.D.Delivery content this) (state_of g.D.Delivery this) c.args.schedule.now closed none 0 (inl ((λ e. wrong (omega arith)), refl)), refl);
     }
 
 pub returns-in-Some : goal.returns-in-Some
 returns-in-Some g c =
     let this = c.args.self.now in
-    let closed = shut this.next (vec_items this.play) c.is-some.result c.is-some.ensures c.if-is-some.false in
-    let none = emptied this.fired c.is-empty.result c.is-empty.ensures c.if-not-is-empty.false in
-    let hidden = unseen this.next (vec_items c.read.new.entries) (vec_items this.play) (sym c.if-is-some.ensures) in
+    let closed = shut this.next (vec_items this.play) c.is_some.result c.is_some.ensures c.if-is_some.false in
+    let none = emptied this.fired c.is_empty.result c.is_empty.ensures c.if-not-is_empty.false in
+    let hidden = unseen this.next (vec_items c.read.new.entries) (vec_items this.play) (sym c.if-is_some.ensures) in
     record {
       same = record { layout = refl; rule = refl; room = refl; layer = refl };
       sound = λ content s. unchanged g.D.Delivery content this _ s (record { layout = refl; rule = refl; room = refl; layer = refl }) s.started (same_state refl refl hidden);
@@ -68,7 +68,7 @@ returns-in-Some g c =
           let n = copy_length content (vec_items this.layout.places) s.copy in
           let m = this.layout.places.ok.0 in
           let k = c.len.ensures in
-          let right = eqb-true (length c.args.schedule.now) (2 * c.len.result) (sym c.has-records.ensures ∙ c.if-not-has-records.false) in (
+          let right = eqb-true (length c.args.schedule.now) (2 * c.len.result) (sym c.has_records.ensures ∙ c.if-not-has_records.false) in (
             begin_bad (stage_of g.D.Delivery content this) (state_of g.D.Delivery this) c.args.schedule.now closed none c.in-Some.place (inr (omega arith, c.in-Some.ensures.reads content s.copy)),
             same_state refl refl hidden,
           );
@@ -77,8 +77,8 @@ returns-in-Some g c =
 pub returns : goal.returns
 returns g c =
     let this = c.args.self.now in
-    let closed = shut this.next (vec_items this.play) c.is-some.result c.is-some.ensures c.if-is-some.false in
-    let none = emptied this.fired c.is-empty.result c.is-empty.ensures c.if-not-is-empty.false in
+    let closed = shut this.next (vec_items this.play) c.is_some.result c.is_some.ensures c.if-is_some.false in
+    let none = emptied this.fired c.is_empty.result c.is_empty.ensures c.if-not-is_empty.false in
     record {
       same = record { layout = refl; rule = refl; room = refl; layer = refl };
       sound = λ content s. stays g.D.Delivery content this _ s (record { layout = refl; rule = refl; room = refl; layer = refl }) s.started refl refl (omega arith, none);
@@ -86,8 +86,8 @@ returns g c =
           let n = copy_length content (vec_items this.layout.places) s.copy in
           let m = this.layout.places.ok.0 in
           let k = c.len.ensures in
-          let right = eqb-true (length c.args.schedule.now) (2 * c.len.result) (sym c.has-records.ensures ∙ c.if-not-has-records.false) in
-          let copied = c.in-default.ensures.reads content s.copy in (
+          let right = eqb-true (length c.args.schedule.now) (2 * c.len.result) (sym c.has_records.ensures ∙ c.if-not-has_records.false) in
+          let copied = c.in_default.ensures.reads content s.copy in (
             begin_good (stage_of g.D.Delivery content this) (state_of g.D.Delivery this) c.args.schedule.now closed none (omega arith) copied.1,
             same_state refl refl (ap (λ (es : List Entry). play_at (Some 0) es) copied.0),
           );

@@ -7,9 +7,9 @@ pub returns : goal.returns
 returns g c =
     let emptied = c.empty.ensures in
     let none = c.clear.ensures.items in
-    let closed = shut c.args.self.now.next (vec_items c.args.self.now.play) c.is-some.result c.is-some.ensures c.if-is-some.false in
+    let closed = shut c.args.self.now.next (vec_items c.args.self.now.play) c.is_some.result c.is_some.ensures c.if-is_some.false in
     record {
       same = record { layout = refl; rule = emptied.rule; room = emptied.room; layer = emptied.layer };
-      sound = λ content s. cleared-sound g.D.Delivery content _ emptied.starts s.laid s.few_messages s.copy none emptied.empties (none_from _ (sym c.if-is-some.ensures));
+      sound = λ content s. cleared-sound g.D.Delivery content _ emptied.starts s.laid s.few_messages s.copy none emptied.empties (none_from _ (sym c.if-is_some.ensures));
       clears = (clearable (state_of g.D.Delivery c.args.self.now) closed, same_state none emptied.empties (none_from _ closed));
     }

@@ -6,13 +6,13 @@ use Rattle.bench.proofs.Standing.{unmoved, stays}
 use Rattle.bench.proofs.Playing.{close_none, close_free, step_count}
 use Rattle.bench.proofs.stand.Bench.close.Goals as goal
 
-pub returns-in-default : goal.returns-in-default
-returns-in-default g c =
+pub returns-in_default : goal.returns-in_default
+returns-in_default g c =
     let this = c.args.self.now in
     record {
       same = unmoved g.D.Delivery this;
       sound = λ content s. s;
-      closes = λ content s. (close_none (state_of g.D.Delivery this) (ap (λ k. is_some (play_at k (vec_items this.play))) c.in-default.is), refl);
+      closes = λ content s. (close_none (state_of g.D.Delivery this) (ap (λ k. is_some (play_at k (vec_items this.play))) c.in_default.is), refl);
     }
 
 pub returns : goal.returns

@@ -32,21 +32,21 @@ module _ (c : Content) (t : Text) where
 undone : (xs ys zs : List Name) (n : Name) (k l : ℕ) → ys ≡ xs ++ n ∷ [] → zs ≡ take (k - 1) ys → k ≡ l + 1 → l ≡ length xs → zs ≡ xs
 undone xs ys zs n k l pushed popped more long = popped ∙ ap (take (k - 1)) pushed ∙ take_at xs (n ∷ []) (k - 1) (omega arith)
 
-pub returns-then-len-ge-INSTANCE-LIMIT : goal.returns-then-len-ge-INSTANCE-LIMIT
-returns-then-len-ge-INSTANCE-LIMIT c = record { answer = full (drafted c.args.self.now) _ (omega (arith, instance_count c.args.self.now.parts)); unchanged = refl }
+pub returns-then-len-ge-INSTANCE_LIMIT : goal.returns-then-len-ge-INSTANCE_LIMIT
+returns-then-len-ge-INSTANCE_LIMIT c = record { answer = full (drafted c.args.self.now) _ (omega (arith, instance_count c.args.self.now.parts)); unchanged = refl }
 
 -- what the check for a repeat said
 told : (xs ys zs : List Name) (n : Name) (o : Option ℕ) (b r : Bool) → NamesApart (map text_of xs) → zs ≡ ys → ys ≡ xs ++ n ∷ [] → FirstRepeat same_name zs o → r ≡ is_some o → r ≡ b → among (text_of n) (map text_of xs) ≡ b
 told xs ys zs n o b r apart read pushed first tested way = sym (repeat_means xs n o apart (subst (λ (l : List Name). FirstRepeat same_name l o) (read ∙ pushed) first)) ∙ sym tested ∙ way
 
-pub invariant-of-self : goal.invariant-of-self
-invariant-of-self c =
+pub invariant_of-self : goal.invariant_of-self
+invariant_of-self c =
     let p : Parts = c.args.self.now.parts in
-    let same = undone _ _ _ c.args.name _ _ c.push-reserved.ensures.items c.pop.ensures.rest c.push-reserved.ensures.len c.args.self.now.parts.instances.ok.0 in
+    let same = undone _ _ _ c.args.name _ _ c.push_reserved.ensures.items c.pop.ensures.rest c.push_reserved.ensures.len c.args.self.now.parts.instances.ok.0 in
     let long = ap length same in
     kept (listing p c.pop.new.self)
     (record {
-      instance_room = omega (arith, c.pop.ensures.capacity, c.push-reserved.ensures.capacity, c.args.self.now.instance_room);
+      instance_room = omega (arith, c.pop.ensures.capacity, c.push_reserved.ensures.capacity, c.args.self.now.instance_room);
       message_room = c.args.self.now.message_room;
       event_room = c.args.self.now.event_room;
       titled = c.args.self.now.titled;
@@ -56,34 +56,34 @@ invariant-of-self c =
     })
     (subst Growing (sym (same_content (title_of p.title) (ap (map text_of) same) refl refl)) (growing c.args.self.now))
 
-pub returns-then-is-some : goal.returns-then-is-some
-returns-then-is-some c =
+pub returns-then-is_some : goal.returns-then-is_some
+returns-then-is_some c =
     let p : Parts = c.args.self.now.parts in
     record {
-      answer = twice (content_of p) (text_of c.args.name) (omega (arith, instance_count p)) (told _ _ _ c.args.name _ _ _ c.args.self.now.instances_apart c.deref.ensures.value c.push-reserved.ensures.items c.first-repeat.ensures c.is-some.ensures c.if-is-some.true);
-      unchanged = same_content (title_of p.title) (ap (map text_of) (undone _ _ _ c.args.name _ _ c.push-reserved.ensures.items c.pop.ensures.rest c.push-reserved.ensures.len c.args.self.now.parts.instances.ok.0)) refl refl;
+      answer = twice (content_of p) (text_of c.args.name) (omega (arith, instance_count p)) (told _ _ _ c.args.name _ _ _ c.args.self.now.instances_apart c.deref.ensures.value c.push_reserved.ensures.items c.first_repeat.ensures c.is_some.ensures c.if-is_some.true);
+      unchanged = same_content (title_of p.title) (ap (map text_of) (undone _ _ _ c.args.name _ _ c.push_reserved.ensures.items c.pop.ensures.rest c.push_reserved.ensures.len c.args.self.now.parts.instances.ok.0)) refl refl;
     }
 
-pub invariant-of-self-else-is-some : goal.invariant-of-self-else-is-some
-invariant-of-self-else-is-some c =
+pub invariant_of-self-else-is_some : goal.invariant_of-self-else-is_some
+invariant_of-self-else-is_some c =
     let p : Parts = c.args.self.now.parts in
-    kept (listing p c.push-reserved.new.self)
+    kept (listing p c.push_reserved.new.self)
     (record {
-      instance_room = omega (arith, c.push-reserved.ensures.capacity, c.args.self.now.instance_room);
+      instance_room = omega (arith, c.push_reserved.ensures.capacity, c.args.self.now.instance_room);
       message_room = c.args.self.now.message_room;
       event_room = c.args.self.now.event_room;
       titled = c.args.self.now.titled;
-      some_instance = omega (arith, c.push-reserved.ensures.len);
-      few_instances = omega (arith, c.push-reserved.ensures.len, c.if-len-ge-INSTANCE-LIMIT.false, c.len.ensures);
+      some_instance = omega (arith, c.push_reserved.ensures.len);
+      few_instances = omega (arith, c.push_reserved.ensures.len, c.if-len-ge-INSTANCE_LIMIT.false, c.len.ensures);
       few_messages = c.args.self.now.few_messages;
     })
-    (subst Growing (sym (with_instance_lem p c.push-reserved.new.self c.args.name c.push-reserved.ensures.items))
-    (instance_grows (content_of p) (text_of c.args.name) (growing c.args.self.now) (told _ _ _ c.args.name _ _ _ c.args.self.now.instances_apart c.deref.ensures.value c.push-reserved.ensures.items c.first-repeat.ensures c.is-some.ensures c.if-is-some.false)))
+    (subst Growing (sym (with_instance_lem p c.push_reserved.new.self c.args.name c.push_reserved.ensures.items))
+    (instance_grows (content_of p) (text_of c.args.name) (growing c.args.self.now) (told _ _ _ c.args.name _ _ _ c.args.self.now.instances_apart c.deref.ensures.value c.push_reserved.ensures.items c.first_repeat.ensures c.is_some.ensures c.if-is_some.false)))
 
 pub returns : goal.returns
 returns c =
     let p : Parts = c.args.self.now.parts in
     record {
-      answer = ap Ok (with_instance_lem p c.push_reserved.new.self c.args.name c.push_reserved.ensures.items) ∙ joined (content_of p) (text_of c.args.name) (omega (arith, instance_count p)) (told _ _ _ c.args.name _ _ _ c.args.self.now.instances_apart c.deref.ensures.value c.push_reserved.ensures.items c.first_repeat.ensures c.is_some.ensures c.if-is-some.false);
+      answer = ap Ok (with_instance_lem p c.push_reserved.new.self c.args.name c.push_reserved.ensures.items) ∙ joined (content_of p) (text_of c.args.name) (omega (arith, instance_count p)) (told _ _ _ c.args.name _ _ _ c.args.self.now.instances_apart c.deref.ensures.value c.push_reserved.ensures.items c.first_repeat.ensures c.is_some.ensures c.if-is_some.false);
       unchanged = tt;
     }

@@ -5,16 +5,16 @@ use Rattle.chart.specs.Names.{text_of}
 use Rattle.chart.proofs.Stored.{seek_message, found_message, message_at}
 use Rattle.chart.proofs.drafting.Draft.find_message.Goals as goal
 
-pub overflow-cast-result : goal.overflow-cast-result
-overflow-cast-result c = omega (arith, found_message c.args.self.now.parts _ _ c.in-Some.place c.in-Some.ensures c.deref.ensures.value, c.args.self.now.few_messages)
+pub overflow_cast-result : goal.overflow_cast-result
+overflow_cast-result c = omega (arith, found_message c.args.self.now.parts _ _ c.in-Some.place c.in-Some.ensures c.deref.ensures.value, c.args.self.now.few_messages)
 
 pub index-message-requires : goal.index-message-requires
 index-message-requires c = found_message c.args.self.now.parts _ _ c.in-Some.place c.in-Some.ensures c.deref.ensures.value
 
-pub returns-in-default : goal.returns-in-default
-returns-in-default c =
+pub returns-in_default : goal.returns-in_default
+returns-in_default c =
     record {
-      number = c.in-default.ensures ∙ ap (seek (λ m. text_of m.name) c.args.text.now) c.deref.ensures.value ∙ sym (seek_message c.args.self.now.parts c.args.text.now);
+      number = c.in_default.ensures ∙ ap (seek (λ m. text_of m.name) c.args.text.now) c.deref.ensures.value ∙ sym (seek_message c.args.self.now.parts c.args.text.now);
       sender = tt;
       receiver = tt;
     }

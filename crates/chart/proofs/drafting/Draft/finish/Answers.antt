@@ -14,8 +14,8 @@ use Rattle.chart.proofs.drafting.Draft.finish.Goals as goal
 once : (d : Draft) → all_received (drafted d) ≡ true → AllReceived (drafted d)
 once d all m l = omega (arith, ltb-true 0 _ (each_below (λ n. ltb 0 (times_received (drafted d) n)) (length (drafted d).messages) m all l), d.none_twice m l)
 
-pub invariant-of-result : goal.invariant-of-result
-invariant-of-result c =
+pub invariant_of-result : goal.invariant_of-result
+invariant_of-result c =
     let d : Draft = c.args.self in (
       d.titled ∙ sym (lt-ltb 0 _ d.some_instance),
       (
@@ -37,7 +37,7 @@ invariant-of-result c =
                       (
                         (λ m l. sent_once (drafted d).events 0 m d.numbered (omega arith) (omega (arith, d.all_sent))),
                         (
-                          once d (sym c.if-not-all-received.ensures),
+                          once d (sym c.if-not-all_received.ensures),
                           (
                             (λ m l. sent_first (drafted d).events 0 m d.numbered (omega arith) (omega (arith, d.all_sent))),
                             ((λ e x l. omega (arith, inside (drafted d).events 0 d.numbered e x l, d.all_sent)), tt),
@@ -54,8 +54,8 @@ invariant-of-result c =
       ),
     )
 
-pub returns-then-not-all-received : goal.returns-then-not-all-received
-returns-then-not-all-received c = sym (cond-false _ _ _ (sym c.if-not-all-received.ensures))
+pub returns-then-not-all_received : goal.returns-then-not-all_received
+returns-then-not-all_received c = sym (cond-false _ _ _ (sym c.if-not-all_received.ensures))
 
 pub returns : goal.returns
 returns c = sym (cond-true _ _ _ (sym c.if-not-all_received.ensures))

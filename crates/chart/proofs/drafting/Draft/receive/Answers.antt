@@ -23,26 +23,26 @@ module _ (d : Draft) (m : ℕ) (known : m < vec_len d.parts.messages) (new : ltb
 pub returns-then-message-len : goal.returns-then-message-len
 returns-then-message-len c = record { answer = not_sent (drafted c.args.self.now) c.args.message.0 (omega (arith, message_count c.args.self.now.parts)); unchanged = refl }
 
-pub returns-then-is-received : goal.returns-then-is-received
-returns-then-is-received c = record { answer = again (drafted c.args.self.now) c.args.message.0 (omega (arith, message_count c.args.self.now.parts)) (sym c.if-is-received.ensures); unchanged = refl }
+pub returns-then-is_received : goal.returns-then-is_received
+returns-then-is_received c = record { answer = again (drafted c.args.self.now) c.args.message.0 (omega (arith, message_count c.args.self.now.parts)) (sym c.if-is_received.ensures); unchanged = refl }
 
-pub push-reserved-requires : goal.push-reserved-requires
-push-reserved-requires c = omega (arith, room c.args.self.now c.args.message.0 (omega arith) (sym c.if-is-received.ensures), c.args.self.now.event_room)
+pub push_reserved-requires : goal.push_reserved-requires
+push_reserved-requires c = omega (arith, room c.args.self.now c.args.message.0 (omega arith) (sym c.if-is_received.ensures), c.args.self.now.event_room)
 
-pub invariant-of-self : goal.invariant-of-self
-invariant-of-self c =
+pub invariant_of-self : goal.invariant_of-self
+invariant_of-self c =
     let d : Draft = c.args.self.now in
-    kept (lining d.parts d.parts.messages c.push-reserved.new.self)
+    kept (lining d.parts d.parts.messages c.push_reserved.new.self)
     (record {
       instance_room = d.instance_room;
       message_room = d.message_room;
-      event_room = omega (arith, c.push-reserved.ensures.capacity, d.event_room);
+      event_room = omega (arith, c.push_reserved.ensures.capacity, d.event_room);
       titled = d.titled;
       some_instance = d.some_instance;
       few_instances = d.few_instances;
       few_messages = d.few_messages;
     })
-    (subst Growing (sym (with_receipt_lem d.parts c.push-reserved.new.self c.args.message c.push-reserved.ensures.items)) (grown d c.args.message.0 (omega arith) (sym c.if-is-received.ensures)))
+    (subst Growing (sym (with_receipt_lem d.parts c.push_reserved.new.self c.args.message c.push_reserved.ensures.items)) (grown d c.args.message.0 (omega arith) (sym c.if-is_received.ensures)))
 
 pub returns : goal.returns
 returns c =

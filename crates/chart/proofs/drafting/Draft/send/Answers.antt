@@ -22,17 +22,17 @@ module _ (d : Draft) (t : Text) (s r : ℕ) (new : message_called (drafted d) t 
   room : vec_len d.parts.events < 128
   room = omega (arith, few_events (with_message (drafted d) t s r) grown, length_push (drafted d).events (sent (length (drafted d).messages)), length_push (drafted d).messages (record { name = t; sender = s; receiver = r }), event_count d.parts, message_count d.parts)
 
-pub returns-then-is-some : goal.returns-then-is-some
-returns-then-is-some c =
+pub returns-then-is_some : goal.returns-then-is_some
+returns-then-is_some c =
     record {
-      answer = named_twice (drafted c.args.self.now) (text_of c.args.name) _ _ (named_so c.args.self.now.parts (text_of c.args.name) _ _ _ _ _ c.text.ensures c.deref.ensures.value c.find-message.ensures c.is-some.ensures c.if-is-some.true);
+      answer = named_twice (drafted c.args.self.now) (text_of c.args.name) _ _ (named_so c.args.self.now.parts (text_of c.args.name) _ _ _ _ _ c.text.ensures c.deref.ensures.value c.find_message.ensures c.is_some.ensures c.if-is_some.true);
       number = refl;
     }
 
-pub returns-then-count-ge-MESSAGE-LIMIT : goal.returns-then-count-ge-MESSAGE-LIMIT
-returns-then-count-ge-MESSAGE-LIMIT c =
+pub returns-then-count-ge-MESSAGE_LIMIT : goal.returns-then-count-ge-MESSAGE_LIMIT
+returns-then-count-ge-MESSAGE_LIMIT c =
     record {
-      answer = too_many (drafted c.args.self.now) (text_of c.args.name) c.args.sender.0 c.args.receiver.0 (named_so c.args.self.now.parts (text_of c.args.name) _ _ _ _ _ c.text.ensures c.deref.ensures.value c.find-message.ensures c.is-some.ensures c.if-is-some.false) (omega (arith, message_count c.args.self.now.parts));
+      answer = too_many (drafted c.args.self.now) (text_of c.args.name) c.args.sender.0 c.args.receiver.0 (named_so c.args.self.now.parts (text_of c.args.name) _ _ _ _ _ c.text.ensures c.deref.ensures.value c.find_message.ensures c.is_some.ensures c.if-is_some.false) (omega (arith, message_count c.args.self.now.parts));
       number = refl;
     }
 
@@ -57,27 +57,27 @@ returns-then-eq c =
       number = refl;
     }
 
-pub push-reserved-requires-2 : goal.push-reserved-requires-2
-push-reserved-requires-2 c = omega (arith, room c.args.self.now (text_of c.args.name) c.args.sender.0 c.args.receiver.0 (named_so c.args.self.now.parts (text_of c.args.name) _ _ _ _ _ c.text.ensures c.deref.ensures.value c.find-message.ensures c.is-some.ensures c.if-is-some.false) (omega arith) (omega arith) (omega arith) (not_from_Decides _ c.eq.ensures c.if-eq.false), c.args.self.now.event_room)
+pub push_reserved-requires-2 : goal.push_reserved-requires-2
+push_reserved-requires-2 c = omega (arith, room c.args.self.now (text_of c.args.name) c.args.sender.0 c.args.receiver.0 (named_so c.args.self.now.parts (text_of c.args.name) _ _ _ _ _ c.text.ensures c.deref.ensures.value c.find_message.ensures c.is_some.ensures c.if-is_some.false) (omega arith) (omega arith) (omega arith) (not_from_Decides _ c.eq.ensures c.if-eq.false), c.args.self.now.event_room)
 
-pub invariant-of-self : goal.invariant-of-self
-invariant-of-self c =
+pub invariant_of-self : goal.invariant_of-self
+invariant_of-self c =
     let d : Draft = c.args.self.now in
-    kept (lining d.parts c.push-reserved.new.self c.push-reserved-2.new.self)
+    kept (lining d.parts c.push_reserved.new.self c.push_reserved-2.new.self)
     (record {
       instance_room = d.instance_room;
-      message_room = omega (arith, c.push-reserved.ensures.capacity, d.message_room);
-      event_room = omega (arith, c.push-reserved-2.ensures.capacity, d.event_room);
+      message_room = omega (arith, c.push_reserved.ensures.capacity, d.message_room);
+      event_room = omega (arith, c.push_reserved-2.ensures.capacity, d.event_room);
       titled = d.titled;
       some_instance = d.some_instance;
       few_instances = d.few_instances;
-      few_messages = omega (arith, c.push-reserved.ensures.len);
+      few_messages = omega (arith, c.push_reserved.ensures.len);
     })
-    (subst Growing (sym (with_message_lem c.args.self.now.parts c.push-reserved.new.self c.push-reserved-2.new.self (record { name = c.args.name; sender = c.args.sender; receiver = c.args.receiver }) (record { 0 = c.len-count.result }) c.push-reserved.ensures.items c.push-reserved-2.ensures.items c.len-count.ensures)) (grown c.args.self.now (text_of c.args.name) c.args.sender.0 c.args.receiver.0 (named_so c.args.self.now.parts (text_of c.args.name) _ _ _ _ _ c.text.ensures c.deref.ensures.value c.find-message.ensures c.is-some.ensures c.if-is-some.false) (omega arith) (omega arith) (omega arith) (not_from_Decides _ c.eq.ensures c.if-eq.false)))
+    (subst Growing (sym (with_message_lem c.args.self.now.parts c.push_reserved.new.self c.push_reserved-2.new.self (record { name = c.args.name; sender = c.args.sender; receiver = c.args.receiver }) (record { 0 = c.len-count.result }) c.push_reserved.ensures.items c.push_reserved-2.ensures.items c.len-count.ensures)) (grown c.args.self.now (text_of c.args.name) c.args.sender.0 c.args.receiver.0 (named_so c.args.self.now.parts (text_of c.args.name) _ _ _ _ _ c.text.ensures c.deref.ensures.value c.find_message.ensures c.is_some.ensures c.if-is_some.false) (omega arith) (omega arith) (omega arith) (not_from_Decides _ c.eq.ensures c.if-eq.false)))
 
 pub returns : goal.returns
 returns c =
     record {
-      answer = ap Ok (with_message_lem c.args.self.now.parts c.push_reserved.new.self c.push_reserved-2.new.self (record { name = c.args.name; sender = c.args.sender; receiver = c.args.receiver }) (record { 0 = c.len-count.result }) c.push_reserved.ensures.items c.push_reserved-2.ensures.items c.len-count.ensures) ∙ is_sent (drafted c.args.self.now) (text_of c.args.name) c.args.sender.0 c.args.receiver.0 (named_so c.args.self.now.parts (text_of c.args.name) _ _ _ _ _ c.text.ensures c.deref.ensures.value c.find_message.ensures c.is-some.ensures c.if-is-some.false) (omega (arith, message_count c.args.self.now.parts)) (omega (arith, instance_count c.args.self.now.parts)) (omega (arith, instance_count c.args.self.now.parts)) (not_from_Decides _ c.eq.ensures c.if-eq.false);
+      answer = ap Ok (with_message_lem c.args.self.now.parts c.push_reserved.new.self c.push_reserved-2.new.self (record { name = c.args.name; sender = c.args.sender; receiver = c.args.receiver }) (record { 0 = c.len-count.result }) c.push_reserved.ensures.items c.push_reserved-2.ensures.items c.len-count.ensures) ∙ is_sent (drafted c.args.self.now) (text_of c.args.name) c.args.sender.0 c.args.receiver.0 (named_so c.args.self.now.parts (text_of c.args.name) _ _ _ _ _ c.text.ensures c.deref.ensures.value c.find_message.ensures c.is_some.ensures c.if-is_some.false) (omega (arith, message_count c.args.self.now.parts)) (omega (arith, instance_count c.args.self.now.parts)) (omega (arith, instance_count c.args.self.now.parts)) (not_from_Decides _ c.eq.ensures c.if-eq.false);
       number = c.len-count.ensures ∙ sym (message_count c.args.self.now.parts);
     }

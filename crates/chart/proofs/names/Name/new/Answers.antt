@@ -11,11 +11,11 @@ front copied text rest same = take_at copied rest (length text) (ap length same)
 accepted : (text : List ℕ) → name_like text ≡ true → length text ≤ 24 → judged text ≡ Ok text
 accepted text like short = cond-true _ _ _ like ∙ cond-false _ _ _ (le-ltb 24 (length text) short)
 
-pub invariant-of-result : goal.invariant-of-result
-invariant-of-result c = (
-  c.if-text-gt-NAME-LIMIT.false,
+pub invariant_of-result : goal.invariant_of-result
+invariant_of-result c = (
+  c.if-text-gt-NAME_LIMIT.false,
   (
-    ap is_name (front _ c.args.text.now _ c.copy-from-slice.ensures.after) ∙ and_from _ _ (sym c.if-not-is-name-like.ensures) (le-leb _ _ c.if-text-gt-NAME-LIMIT.false),
+    ap is_name (front _ c.args.text.now _ c.copy_from_slice.ensures.after) ∙ and_from _ _ (sym c.if-not-is_name_like.ensures) (le-leb _ _ c.if-text-gt-NAME_LIMIT.false),
     tt,
   ),
 )

@@ -7,8 +7,8 @@ use Rattle.layers.specs.Shown.{shown}
 use Rattle.layers.proofs.Relays.{put_named, relay_put, relay_put_agree, relay_refuse, relay_refuse_agree}
 use Rattle.layers.proofs.relayed.RelayDelivery.put.Goals as goal
 
-pub returns-then-i-lt-MESSAGE-PLACES : goal.returns-then-i-lt-MESSAGE-PLACES
-returns-then-i-lt-MESSAGE-PLACES g c =
+pub returns-then-i-lt-MESSAGE_PLACES : goal.returns-then-i-lt-MESSAGE_PLACES
+returns-then-i-lt-MESSAGE_PLACES g c =
     let m = g.D.Delivery in
     let this = c.args.self.now in
     let show : Tag → Tag = shown this.group.0 this.station in

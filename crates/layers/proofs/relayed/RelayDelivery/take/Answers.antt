@@ -14,7 +14,7 @@ returns g c =
     let show : Tag → Tag = shown this.group.0 this.station in
     let w : List Parcel = m.waiting this.below in
     let after : List Parcel = m.waiting c.take.new.self in
-    let told : c.lift.result ≡ take_lifted this.given (take_told c.take.result) = c.lift.ensures ∙ ap (take_lifted this.given) c.take-told-answer.ensures in
+    let told : c.lift.result ≡ take_lifted this.given (take_told c.take.result) = c.lift.ensures ∙ ap (take_lifted this.given) c.take_told-answer.ensures in
     record {
       rule = ap (λ R a b. R (show a) (show b)) below.rule;
       room = below.room;

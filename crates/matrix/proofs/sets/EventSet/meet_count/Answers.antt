@@ -3,8 +3,8 @@ use Rattle.matrix.specs.Sets.{word_count}
 use Rattle.matrix.proofs.Bits.{meet_more, count_le, count_none, count_at}
 use Rattle.matrix.proofs.sets.EventSet.meet_count.Goals as goal
 
-pub overflow-add-total : goal.overflow-add-total
-overflow-add-total c =
+pub overflow_add-total : goal.overflow_add-total
+overflow_add-total c =
     let h : get_or c.args.self.now.words c.loop-i.i 0 < 2 ^ 64 = search rules in
     let e = meet_more c.args.self.now.words c.args.second.now.words c.args.third.now.words c.loop-i.i c.loop-i.total h c.loop-i.invariant in
     search (rules, count_le)
