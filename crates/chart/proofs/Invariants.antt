@@ -30,30 +30,35 @@ pub record Roomy (p : Parts) : Type 0 where
 
 -- the ghost fields of a draft, in their order
 abbrev pub Kept : Parts → Type 0
-Kept p =
-    (16 ≤ vec_capacity p.instances) × ((64 ≤ vec_capacity p.messages) × ((128 ≤ vec_capacity p.events) × ((is_some p.title ≡ true) × ((0 < vec_len p.instances) × ((vec_len p.instances ≤ 16) × ((vec_len p.messages ≤ 64)
-    × (InstancesApart (content_of p) × (MessagesApart (content_of p) × (AllJoin (content_of p) × (Numbered (content_of p) × (AllSent (content_of p) × (NoneTwice (content_of p) × Unit {0}))))))))))))
+Kept p = record {
+  instance_room : 16 ≤ vec_capacity p.instances;
+  message_room : 64 ≤ vec_capacity p.messages;
+  event_room : 128 ≤ vec_capacity p.events;
+  titled : is_some p.title ≡ true;
+  some_instance : 0 < vec_len p.instances;
+  few_instances : vec_len p.instances ≤ 16;
+  few_messages : vec_len p.messages ≤ 64;
+  instances_apart : InstancesApart (content_of p);
+  messages_apart : MessagesApart (content_of p);
+  all_join : AllJoin (content_of p);
+  numbered : Numbered (content_of p);
+  all_sent : AllSent (content_of p);
+  none_twice : NoneTwice (content_of p);
+}
 
 pub kept : (p : Parts) → Roomy p → Growing (content_of p) → Kept p
-kept p r g = (
-  r.instance_room,
-  (
-    r.message_room,
-    (
-      r.event_room,
-      (
-        r.titled,
-        (
-          r.some_instance,
-          (
-            r.few_instances,
-            (
-              r.few_messages,
-              (g.instances_apart, (g.messages_apart, (g.all_join, (g.is_numbered, (g.all_sent, (g.none_twice, tt)))))),
-            ),
-          ),
-        ),
-      ),
-    ),
-  ),
-)
+kept p r g = record {
+  instance_room = r.instance_room;
+  message_room = r.message_room;
+  event_room = r.event_room;
+  titled = r.titled;
+  some_instance = r.some_instance;
+  few_instances = r.few_instances;
+  few_messages = r.few_messages;
+  instances_apart = g.instances_apart;
+  messages_apart = g.messages_apart;
+  all_join = g.all_join;
+  numbered = g.is_numbered;
+  all_sent = g.all_sent;
+  none_twice = g.none_twice;
+}

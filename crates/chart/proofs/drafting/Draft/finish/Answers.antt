@@ -16,43 +16,22 @@ once d all m l = omega (arith, ltb-true 0 _ (each_below (λ n. ltb 0 (times_rece
 
 pub invariant_of-result : goal.invariant_of-result
 invariant_of-result c =
-    let d : Draft = c.args.self in (
-      d.titled ∙ sym (lt-ltb 0 _ d.some_instance),
-      (
-        d.few_instances,
-        (
-          d.few_messages,
-          (
-            omega (arith, few_events (drafted d) (growing d), event_count d.parts, message_count d.parts, d.few_messages),
-            (
-              d.instances_apart,
-              (
-                d.messages_apart,
-                (
-                  d.all_join,
-                  (
-                    d.numbered,
-                    (
-                      d.all_sent,
-                      (
-                        (λ m l. sent_once (drafted d).events 0 m d.numbered (omega arith) (omega (arith, d.all_sent))),
-                        (
-                          once d (sym c.if-not-all_received.ensures),
-                          (
-                            (λ m l. sent_first (drafted d).events 0 m d.numbered (omega arith) (omega (arith, d.all_sent))),
-                            ((λ e x l. omega (arith, inside (drafted d).events 0 d.numbered e x l, d.all_sent)), tt),
-                          ),
-                        ),
-                      ),
-                    ),
-                  ),
-                ),
-              ),
-            ),
-          ),
-        ),
-      ),
-    )
+    let d : Draft = c.args.self in
+    record {
+      titled = d.titled ∙ sym (lt-ltb 0 _ d.some_instance);
+      few_instances = d.few_instances;
+      few_messages = d.few_messages;
+      few_events = omega (arith, few_events (drafted d) (growing d), event_count d.parts, message_count d.parts, d.few_messages);
+      instances_apart = d.instances_apart;
+      messages_apart = d.messages_apart;
+      all_join = d.all_join;
+      numbered = d.numbered;
+      all_sent = d.all_sent;
+      sent_once = λ m l. sent_once (drafted d).events 0 m d.numbered (omega arith) (omega (arith, d.all_sent));
+      received_once = once d (sym c.if-not-all_received.ensures);
+      sent_first = λ m l. sent_first (drafted d).events 0 m d.numbered (omega arith) (omega (arith, d.all_sent));
+      inside = λ e x l. omega (arith, inside (drafted d).events 0 d.numbered e x l, d.all_sent);
+    }
 
 pub returns-then-not-all_received : goal.returns-then-not-all_received
 returns-then-not-all_received c = sym (cond-false _ _ _ (sym c.if-not-all_received.ensures))

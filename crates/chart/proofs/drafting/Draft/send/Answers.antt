@@ -1,6 +1,6 @@
 use Rattle.std.proofs.Common.{◌≡◌, ℕ, ◌<◌, ◌≤◌, false, length, Ok, vec_items, vec_len, sym, refl, ap, ◌∙◌, subst, arith}
 use Rattle.std.proofs.lemmas.List.{length_push}
-use Rattle.std.proofs.lemmas.Bool.Decides.{not_from_Decides}
+use Rattle.std.proofs.lemmas.Bool.{eqb-true, eqb-false}
 use Rattle.chart.specs.Content.{Post, sent}
 use Rattle.chart.specs.Drafted.{drafted}
 use Rattle.chart.specs.Drafting.{message_called, with_message}
@@ -53,12 +53,12 @@ returns-then-receiver-len c =
 pub returns-then-eq : goal.returns-then-eq
 returns-then-eq c =
     record {
-      answer = to_itself (drafted c.args.self.now) (text_of c.args.name) c.args.sender.0 c.args.receiver.0 (named_so c.args.self.now.parts (text_of c.args.name) _ _ _ _ _ c.text.ensures c.deref.ensures.value c.find_message.ensures c.is_some.ensures c.if-is_some.false) (omega (arith, message_count c.args.self.now.parts)) (omega (arith, instance_count c.args.self.now.parts)) (omega (arith, instance_count c.args.self.now.parts)) (c.eq.ensures.0 c.if-eq.true);
+      answer = to_itself (drafted c.args.self.now) (text_of c.args.name) c.args.sender.0 c.args.receiver.0 (named_so c.args.self.now.parts (text_of c.args.name) _ _ _ _ _ c.text.ensures c.deref.ensures.value c.find_message.ensures c.is_some.ensures c.if-is_some.false) (omega (arith, message_count c.args.self.now.parts)) (omega (arith, instance_count c.args.self.now.parts)) (omega (arith, instance_count c.args.self.now.parts)) (eqb-true _ _ (sym c.eq.ensures ∙ c.if-eq.true));
       number = refl;
     }
 
 pub push_reserved-requires-2 : goal.push_reserved-requires-2
-push_reserved-requires-2 c = omega (arith, room c.args.self.now (text_of c.args.name) c.args.sender.0 c.args.receiver.0 (named_so c.args.self.now.parts (text_of c.args.name) _ _ _ _ _ c.text.ensures c.deref.ensures.value c.find_message.ensures c.is_some.ensures c.if-is_some.false) (omega arith) (omega arith) (omega arith) (not_from_Decides _ c.eq.ensures c.if-eq.false), c.args.self.now.event_room)
+push_reserved-requires-2 c = omega (arith, room c.args.self.now (text_of c.args.name) c.args.sender.0 c.args.receiver.0 (named_so c.args.self.now.parts (text_of c.args.name) _ _ _ _ _ c.text.ensures c.deref.ensures.value c.find_message.ensures c.is_some.ensures c.if-is_some.false) (omega arith) (omega arith) (omega arith) (eqb-false _ _ (sym c.eq.ensures ∙ c.if-eq.false)), c.args.self.now.event_room)
 
 pub invariant_of-self : goal.invariant_of-self
 invariant_of-self c =
@@ -73,11 +73,11 @@ invariant_of-self c =
       few_instances = d.few_instances;
       few_messages = omega (arith, c.push_reserved.ensures.len);
     })
-    (subst Growing (sym (with_message_lem c.args.self.now.parts c.push_reserved.new.self c.push_reserved-2.new.self (record { name = c.args.name; sender = c.args.sender; receiver = c.args.receiver }) (record { 0 = c.len-count.result }) c.push_reserved.ensures.items c.push_reserved-2.ensures.items c.len-count.ensures)) (grown c.args.self.now (text_of c.args.name) c.args.sender.0 c.args.receiver.0 (named_so c.args.self.now.parts (text_of c.args.name) _ _ _ _ _ c.text.ensures c.deref.ensures.value c.find_message.ensures c.is_some.ensures c.if-is_some.false) (omega arith) (omega arith) (omega arith) (not_from_Decides _ c.eq.ensures c.if-eq.false)))
+    (subst Growing (sym (with_message_lem c.args.self.now.parts c.push_reserved.new.self c.push_reserved-2.new.self (record { name = c.args.name; sender = c.args.sender; receiver = c.args.receiver }) (record { 0 = c.len-count.result }) c.push_reserved.ensures.items c.push_reserved-2.ensures.items c.len-count.ensures)) (grown c.args.self.now (text_of c.args.name) c.args.sender.0 c.args.receiver.0 (named_so c.args.self.now.parts (text_of c.args.name) _ _ _ _ _ c.text.ensures c.deref.ensures.value c.find_message.ensures c.is_some.ensures c.if-is_some.false) (omega arith) (omega arith) (omega arith) (eqb-false _ _ (sym c.eq.ensures ∙ c.if-eq.false))))
 
 pub returns : goal.returns
 returns c =
     record {
-      answer = ap Ok (with_message_lem c.args.self.now.parts c.push_reserved.new.self c.push_reserved-2.new.self (record { name = c.args.name; sender = c.args.sender; receiver = c.args.receiver }) (record { 0 = c.len-count.result }) c.push_reserved.ensures.items c.push_reserved-2.ensures.items c.len-count.ensures) ∙ is_sent (drafted c.args.self.now) (text_of c.args.name) c.args.sender.0 c.args.receiver.0 (named_so c.args.self.now.parts (text_of c.args.name) _ _ _ _ _ c.text.ensures c.deref.ensures.value c.find_message.ensures c.is_some.ensures c.if-is_some.false) (omega (arith, message_count c.args.self.now.parts)) (omega (arith, instance_count c.args.self.now.parts)) (omega (arith, instance_count c.args.self.now.parts)) (not_from_Decides _ c.eq.ensures c.if-eq.false);
+      answer = ap Ok (with_message_lem c.args.self.now.parts c.push_reserved.new.self c.push_reserved-2.new.self (record { name = c.args.name; sender = c.args.sender; receiver = c.args.receiver }) (record { 0 = c.len-count.result }) c.push_reserved.ensures.items c.push_reserved-2.ensures.items c.len-count.ensures) ∙ is_sent (drafted c.args.self.now) (text_of c.args.name) c.args.sender.0 c.args.receiver.0 (named_so c.args.self.now.parts (text_of c.args.name) _ _ _ _ _ c.text.ensures c.deref.ensures.value c.find_message.ensures c.is_some.ensures c.if-is_some.false) (omega (arith, message_count c.args.self.now.parts)) (omega (arith, instance_count c.args.self.now.parts)) (omega (arith, instance_count c.args.self.now.parts)) (eqb-false _ _ (sym c.eq.ensures ∙ c.if-eq.false));
       number = c.len-count.ensures ∙ sym (message_count c.args.self.now.parts);
     }

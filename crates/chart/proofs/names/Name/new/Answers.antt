@@ -12,13 +12,11 @@ accepted : (text : List ℕ) → name_like text ≡ true → length text ≤ 24 
 accepted text like short = cond-true _ _ _ like ∙ cond-false _ _ _ (le-ltb 24 (length text) short)
 
 pub invariant_of-result : goal.invariant_of-result
-invariant_of-result c = (
-  c.if-text-gt-NAME_LIMIT.false,
-  (
-    ap is_name (front _ c.args.text.now _ c.copy_from_slice.ensures.after) ∙ and_from _ _ (sym c.if-not-is_name_like.ensures) (le-leb _ _ c.if-text-gt-NAME_LIMIT.false),
-    tt,
-  ),
-)
+invariant_of-result c =
+    record {
+      short = c.if-text-gt-NAME_LIMIT.false;
+      valid = ap is_name (front _ c.args.text.now _ c.copy_from_slice.ensures.after) ∙ and_from _ _ (sym c.if-not-is_name_like.ensures) (le-leb _ _ c.if-text-gt-NAME_LIMIT.false);
+    }
 
 pub returns : goal.returns
 returns c = ap Ok (front _ c.args.text.now _ c.copy_from_slice.ensures.after) ∙ sym (accepted c.args.text.now (sym c.if-not-is_name_like.ensures) c.if-text-gt-NAME_LIMIT.false)
