@@ -62,7 +62,7 @@ module _ (chart : Chart) (m : ℕ) (xs : List Message) (is : xs ≡ vec_items ch
 
 pub returns-in_err-ends : goal.returns-in_err-ends
 returns-in_err-ends c =
-    c.from-residual.ensures ∙ sym (unknown c.args.chart.now c.args.message.0 c.messages.result.now c.messages.ensures c.in_err-ends.ensures.lookup.3)
+    c.from_residual.ensures ∙ sym (unknown c.args.chart.now c.args.message.0 c.messages.result.now c.messages.ensures c.in_err-ends.ensures.lookup.3)
 
 pub returns : goal.returns
 returns c =
