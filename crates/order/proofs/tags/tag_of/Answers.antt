@@ -1,4 +1,4 @@
-use Rattle.std.proofs.Common.{◌≡◌, ℕ, ◌<◌, ◌≤◌, ◌⊎◌, List, length, get_or, Some, None, vec_items, vec_len, Option, sym, refl, ap, ◌∙◌, subst, inl, inr, arith, MatchOption}
+use Rattle.std.proofs.Common.{◌≡◌, ℕ, ◌<◌, ◌≤◌, ◌⊎◌, List, length, get_or, Some, None, vec_items, vec_len, Option, sym, ap, ◌∙◌, subst, inl, inr, arith, MatchOption}
 use Rattle.std.proofs.lemmas.Bool.{cond-true, cond-false, lt-ltb, le-ltb}
 use Rattle.chart.specs.Charted.{content}
 use Rattle.chart.specs.Content.{Post, nobody, sender_of, receiver_of}
@@ -8,7 +8,7 @@ use Rattle.chart.specs.declared.pieces.Message.{Message}
 use Rattle.chart.proofs.Stored.{message_at, message_count}
 use Rattle.delivery.specs.declared.parcel.Tag.{Tag}
 use Rattle.delivery.specs.declared.station.Station.{Station}
-use Rattle.order.specs.Scenes.{station, tag_of, known_tag}
+use Rattle.order.specs.Scenes.{station, known_tag}
 use Rattle.order.proofs.Scenes.{ends_few, station_is}
 use Rattle.order.proofs.Verdict.{chart_laid}
 use Rattle.order.proofs.tags.tag_of.Goals as goal
