@@ -20,7 +20,7 @@ use Rattle.analysis.specs.declared.outlook.Outlook.{Outlook}
 use Rattle.scheduling.specs.declared.passes.Stage.{Stage}
 use Rattle.scheduling.specs.declared.passes.Stage.TheVariants.{Early, Late, Kept, Other}
 use Rattle.analysis.proofs.Asked.{chart_laws, few_messages, event_has_message}
-use Rattle.analysis.proofs.Pasting.{pasted_none, pasted_more, at_front}
+use Rattle.analysis.proofs.Pasting.{pasted_none, pasted_more}
 use Rattle.scheduling.proofs.Stages.{firings_append, length_firings, pass_grows, listed_planned}
 
 -- these bytes were put at a place, and r is the place after them

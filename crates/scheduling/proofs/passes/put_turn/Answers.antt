@@ -1,4 +1,4 @@
-use Rattle.std.proofs.Common.{◌≡◌, cond, [], ◌∷◌, sym, ◌∙◌, subst}
+use Rattle.std.proofs.Common.{cond, [], ◌∷◌, sym}
 use Rattle.chart.specs.Charted.{content}
 use Rattle.chart.specs.Content.{sent, received}
 use Rattle.scheduling.specs.Firings.{firings}

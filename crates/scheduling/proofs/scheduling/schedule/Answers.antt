@@ -1,4 +1,4 @@
-use Rattle.std.proofs.Common.{◌≡◌, sym, refl, arith}
+use Rattle.std.proofs.Common.{sym, refl, arith}
 use Rattle.analysis.proofs.Asked.{as_many_events}
 use Rattle.scheduling.proofs.Orders.{long, gives}
 use Rattle.scheduling.proofs.scheduling.schedule.Goals as goal
