@@ -24,10 +24,6 @@ decoded_at (x ∷ y ∷ bs) (suc k) l =
     ∙ ap (λ j. entry (get_or bs (2 * k) 0) (get_or (x ∷ y ∷ bs) j 0)) b
     ∙ decoded_at bs k (omega arith)
 
--- a test that is true just if two numbers are one
-pub decides : (b : Bool) (m n : ℕ) → (b ≡ true → m ≡ n) → (m ≡ n → b ≡ true) → b ≡ eqb m n
-decides true m n to from = sym (eq-eqb m n (to refl))
-decides false m n to from = sym (ne_eqb m n (λ e. both_ways false refl (from e)))
 
 module _ (c : Content) (es : List Entry) where
   -- no record is bad of those that fit and are apart

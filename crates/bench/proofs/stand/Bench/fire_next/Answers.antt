@@ -75,16 +75,13 @@ invariant_of-self g c =
     let r = vec_items this.fired in
     let e = c.args.event in
     let pushed = sym c.push_reserved.ensures.items in
-    let room : n ≤ vec_capacity this.fired = this.record_room in (
-      omega (arith, c.push_reserved.ensures.capacity),
-      (
-        this.play_room,
-        (
-          subst (λ q. within n q ≡ true) pushed (within_push n r e this.inside c.in-Some.ensures.0),
-          (subst (λ q. once q ≡ true) pushed (once_push r e c.in_default-against.ensures.fresh this.apart), tt),
-        ),
-      ),
-    )
+    let room : n ≤ vec_capacity this.fired = this.record_room in
+    record {
+      record_room = omega (arith, c.push_reserved.ensures.capacity);
+      play_room = this.play_room;
+      inside = subst (λ q. within n q ≡ true) pushed (within_push n r e this.inside c.in-Some.ensures.0);
+      apart = subst (λ q. once q ≡ true) pushed (once_push r e c.in_default-against.ensures.fresh this.apart);
+    }
 
 pub returns-in-Ok : goal.returns-in-Ok
 returns-in-Ok g c =
