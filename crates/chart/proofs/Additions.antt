@@ -1,12 +1,12 @@
 -- What one instance, one message or one receipt more keeps.
-use Rattle.std.proofs.Common.{◌≡◌, ℕ, zero, suc, ◌+◌, ◌<◌, ◌≤◌, Bool, true, false, cond, not, ◌&&◌, eqb, ltb, ◌⊎◌, List, [], ◌∷◌, ◌++◌, map, length, get_or, take, count_by, sym, refl, ap, ◌∙◌, subst, ⊎_elim, arith}
-use Rattle.std.proofs.lemmas.List.{length_push, length-map, get_or_append_left, get_or_push, take_at, take-append-le, map_push}
+use Rattle.std.proofs.Common.{◌≡◌, ℕ, ◌+◌, ◌<◌, ◌≤◌, true, false, ltb, List, [], ◌∷◌, ◌++◌, length, get_or, count_by, sym, refl, ap, ◌∙◌, subst, ⊎_elim, arith}
+use Rattle.std.proofs.lemmas.List.{length_push, get_or_append_left, get_or_push, take_at, take-append-le, map_push}
 use Rattle.std.proofs.lemmas.Bool.{ne_eqb, eq-eqb, cases_eq, and_parts, and_from, ltb-true, lt-ltb}
 use Rattle.chart.specs.Words.{Text}
 use Rattle.chart.specs.Lookup.{among}
-use Rattle.chart.specs.Content.{Happening, sent, received, is_sending, is_received, Post, Content, joins, NamesApart, message_names, numbered, InstancesApart, MessagesApart, AllJoin, Numbered, AllSent, NoneTwice}
+use Rattle.chart.specs.Content.{Happening, sent, received, is_sending, is_received, Post, Content, joins, NamesApart, message_names, InstancesApart, MessagesApart, AllJoin, Numbered, AllSent, NoneTwice}
 use Rattle.chart.specs.Drafting.{with_instance, with_message, with_receipt, times_received}
-use Rattle.chart.proofs.Counting.{count_push_yes, count_push_no, sum_below, sum_few}
+use Rattle.chart.proofs.Counting.{count_push_yes, count_push_no, sum_few}
 use Rattle.chart.proofs.Numbering.{numbered_send, numbered_receipt, not_received, all_events}
 
 pub same_content : (t : Text) {i i' : List Text} {m m' : List Post} {e e' : List Happening} → i ≡ i' → m ≡ m' → e ≡ e'

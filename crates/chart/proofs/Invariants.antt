@@ -1,6 +1,6 @@
 -- What always holds of a draft, all together, and what it takes to keep it.
 use Rattle.std.proofs.Common.{◌≡◌, ◌<◌, ◌≤◌, true, is_some, vec_len, vec_capacity}
-use Rattle.chart.specs.Content.{Content, InstancesApart, MessagesApart, AllJoin, Numbered, AllSent, NoneTwice}
+use Rattle.chart.specs.Content.{InstancesApart, MessagesApart, AllJoin, Numbered, AllSent, NoneTwice}
 use Rattle.chart.specs.Drafted.{drafted}
 use Rattle.chart.specs.Shown.{content_of}
 use Rattle.chart.specs.declared.drafting.Draft.{Draft}

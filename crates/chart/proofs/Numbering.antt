@@ -1,9 +1,9 @@
 -- What follows from the numbering of the sends.
-use Rattle.std.proofs.Common.{◌≡◌, ℕ, zero, suc, ◌+◌, ◌<◌, ◌≤◌, Bool, true, false, cond, not, ◌&&◌, eqb, ltb, ◌⊎◌, List, [], ◌∷◌, ◌++◌, length, get_or, count_by, sym, refl, ap, ◌∙◌, ⊎_elim, arith}
+use Rattle.std.proofs.Common.{◌≡◌, ℕ, zero, suc, ◌+◌, ◌<◌, ◌≤◌, Bool, true, false, cond, not, eqb, ltb, List, [], ◌∷◌, ◌++◌, length, get_or, count_by, sym, refl, ap, ◌∙◌, ⊎_elim, arith}
 use Rattle.std.specs.List.{prefix_len}
 use Rattle.std.proofs.lemmas.Bool.{ne_eqb, eq-eqb, eqb-true, ltb-true, lt-ltb, cases_eq, and_parts, and_from}
 use Rattle.chart.specs.Content.{Happening, sent, received, message_of, is_sending, is_sent, is_received, numbered, sent_at, received_at}
-use Rattle.chart.proofs.Counting.{count_yes, count_no, count_push_yes, count_push_no, sum_below, sum_same, sum_one_more, sum_few, sum_nothing}
+use Rattle.chart.proofs.Counting.{count_yes, count_no, sum_below, sum_same, sum_one_more, sum_nothing}
 
 abbrev sends : List Happening → ℕ
 sends es = count_by is_sending es

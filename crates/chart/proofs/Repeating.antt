@@ -1,5 +1,5 @@
 -- What the check for a repeat says of names that were apart, and one more.
-use Rattle.std.proofs.Common.{◌≡◌, ℕ, ◌+◌, ◌<◌, Bool, true, false, ◌⊎◌, List, [], ◌∷◌, ◌++◌, map, length, get_or, take, is_some, Some, None, Option, sym, refl, ap, ◌∙◌, subst, inl, inr, arith}
+use Rattle.std.proofs.Common.{◌≡◌, ℕ, ◌<◌, Bool, true, false, List, [], ◌∷◌, ◌++◌, map, length, get_or, take, is_some, Some, None, Option, sym, refl, ap, subst, inl, inr, arith}
 use Rattle.std.specs.Str.{bytes_eq}
 use Rattle.std.proofs.lemmas.List.{length_push, length-map, get_or_append_left, get_or_push, get_or-map, get_or-take, map_push, length-take-le, get_or_default}
 use Rattle.std.proofs.lemmas.Bool.{cases_Bool, both_ways}
@@ -7,7 +7,7 @@ use Rattle.chart.specs.Words.{Text}
 use Rattle.chart.specs.Content.{NamesApart}
 use Rattle.chart.specs.Lookup.{seek, among}
 use Rattle.chart.specs.Names.{text_of}
-use Rattle.chart.specs.Repeats.{FirstRepeat, Apart, RepeatAt}
+use Rattle.chart.specs.Repeats.{FirstRepeat}
 use Rattle.chart.specs.declared.names.Name.{Name}
 use Rattle.chart.proofs.Additions.{apart_push}
 use Rattle.chart.proofs.Seeking.{seek_none, seek_at, seek_absent, is_same}

@@ -1,7 +1,7 @@
 -- How a chart grows line by line, and why a line does not fit.
-use Rattle.std.specs.Prelude.{ℕ, zero, suc, Bool, true, cond, ◌&&◌, ltb, List, [], ◌∷◌, ◌++◌, length, Some, None, Ok, Err, count_by, Option, Result, ◌==◌, nat_le, nat_lt}
+use Rattle.std.specs.Prelude.{ℕ, zero, suc, Bool, true, cond, ◌&&◌, ltb, [], ◌∷◌, ◌++◌, length, Some, None, Ok, Err, count_by, Option, Result, ◌==◌, nat_le, nat_lt}
 use Rattle.chart.specs.Words.{Text}
-use Rattle.chart.specs.Content.{Happening, sent, received, is_received, Post, Content, message_names}
+use Rattle.chart.specs.Content.{sent, received, is_received, Content, message_names}
 use Rattle.chart.specs.Lookup.{among}
 use Rattle.chart.specs.declared.drafting.InstanceRefusal.{InstanceRefusal}
 use Rattle.chart.specs.declared.drafting.InstanceRefusal.TheVariants as instance

@@ -1,10 +1,10 @@
 -- An in event can come before another event exactly if the two are reversible.
-use Rattle.std.proofs.Common.{◌≡◌, ℕ, ◌+◌, ◌<◌, ◌≤◌, T, ◌≢◌, ◌⊎◌, List, [], ◌∷◌, ◌++◌, length, sym, refl, ap, subst, inl, inr, ⊎_elim, arith}
+use Rattle.std.proofs.Common.{◌≡◌, ℕ, ◌<◌, ◌≤◌, T, ◌⊎◌, List, [], ◌∷◌, ◌++◌, length, sym, refl, subst, inl, inr, ⊎_elim, arith}
 use native.Mathlib.Decide.{ℕ_discrete}
 use Rattle.chart.specs.Content.{Happening, sent, received, message_of}
-use Rattle.order.specs.Lists.{Has, Once, without}
+use Rattle.order.specs.Lists.{Has, without}
 use Rattle.order.specs.Order.{Scene, Laws, Enforced, drawn, own, held, chain}
-use Rattle.order.specs.Runs.{waits, MaySend, MayReceive, Run, cleared, fired, Complete, Reversed, now, since, Reverses, CanReverse}
+use Rattle.order.specs.Runs.{waits, Run, cleared, fired, Reversed, now, since, CanReverse}
 use Rattle.order.specs.Reversible.{Between, Crowd, CrowdFits, Reversible}
 use Rattle.order.proofs.Lists.{has_left, has_right, fits, length_push, without_keeps, without_lt}
 use Rattle.order.proofs.Tests.{test?, and?, or?, not?}

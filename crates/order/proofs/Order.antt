@@ -1,5 +1,5 @@
 -- The enforced order runs along out(0), in(0), out(1), in(1), ...; and it is told by its last step.
-use Rattle.std.proofs.Common.{◌≡◌, ℕ, ◌+◌, ◌*◌, ◌<◌, T, ◌⊎◌, sym, refl, subst, inl, inr, arith}
+use Rattle.std.proofs.Common.{◌≡◌, ℕ, ◌*◌, ◌<◌, T, ◌⊎◌, sym, refl, subst, inl, inr, arith}
 use Rattle.chart.specs.Content.{Happening, sent, received, message_of}
 use Rattle.order.specs.Order.{Scene, Laws, Enforced, drawn, own, held, chain}
 use Rattle.order.specs.Statements.{turn}

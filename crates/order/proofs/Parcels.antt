@@ -1,10 +1,8 @@
 -- A delivery that keeps the messages of a run accepts just the firings that may follow.
-use Rattle.std.proofs.Common.{◌≡◌, ℕ, suc, Bool, true, false, cond, ◌||◌, T, eqb, ◌≢◌, ◌⊎◌, ◌↔◌, List, [], ◌∷◌, ◌++◌, map, length, Some, None, Option, sym, refl, ap, ◌∙◌, subst, inl, inr, ⊎_elim, arith}
-use Rattle.std.proofs.lemmas.Bool.{eqb-true, eq-eqb, ne_eqb, both_ways, cond-true, cond-false, or_left, or_right, or_from, cases_Bool}
+use Rattle.std.proofs.Common.{◌≡◌, ℕ, Bool, true, false, T, eqb, ◌≢◌, ◌⊎◌, ◌↔◌, List, [], ◌∷◌, ◌++◌, length, Some, None, sym, refl, ap, ◌∙◌, subst, inl, inr, ⊎_elim, arith}
+use Rattle.std.proofs.lemmas.Bool.{eq-eqb, ne_eqb, cond-true, cond-false, or_left, or_right, or_from}
 use Rattle.chart.specs.Content.{Content}
-use Rattle.chart.specs.declared.numbers.MessageId.{MessageId}
 use Rattle.delivery.specs.declared.parcel.Tag.{Tag}
-use Rattle.delivery.specs.declared.parcel.Parcel.{Parcel}
 use Rattle.delivery.specs.Waiting as delivery
 use Rattle.order.specs.Lists.{Has, Once, Ahead, without}
 use Rattle.order.specs.Scenes.{tag_of}

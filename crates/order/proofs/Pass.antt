@@ -1,14 +1,14 @@
 -- The one pass computes the enforced order, and so decides it, counts the crowd and tells the reversible pairs.
-use Rattle.std.proofs.Common.{◌≡◌, ℕ, zero, suc, ◌+◌, ◌*◌, ◌<◌, ◌≤◌, Bool, true, false, cond, not, ◌&&◌, ◌||◌, T, leb, ◌≢◌, ◌⊎◌, ◌↔◌, List, [], ◌∷◌, ◌++◌, length, sym, refl, ap, ◌∙◌, subst, inl, inr, ⊎_elim, arith, le→leb, leb→le, T_not}
+use Rattle.std.proofs.Common.{◌≡◌, ℕ, zero, suc, ◌<◌, ◌≤◌, Bool, true, false, cond, not, ◌&&◌, ◌||◌, T, leb, ◌⊎◌, ◌↔◌, List, [], ◌∷◌, ◌++◌, length, sym, refl, ap, subst, inl, inr, ⊎_elim, arith, le→leb, leb→le, T_not}
 use native.Mathlib.Decide.{map_dec, dec_lt}
 use lib.Dec.{not_T}
 use Rattle.chart.specs.Content.{Happening, sent, received, message_of}
 use Rattle.order.specs.Lists.{Has, Once}
-use Rattle.order.specs.Order.{Scene, Laws, Enforced, drawn, own, held, chain}
+use Rattle.order.specs.Order.{Scene, Laws, Enforced}
 use Rattle.order.specs.Reversible.{Between, Crowd, CrowdFits, Reversible}
 use Rattle.order.specs.Pass.{same, listed, Row, row, send_row, holder_row, with_rows, rows, row_of, enforces, chosen, between, crowd_size, turns, reverses}
 use Rattle.order.proofs.Lists.{has_left, has_right, has_cases, fits, below_suc}
-use Rattle.order.proofs.Tests.{or_either, or_one, or_other, both_of, both, test?, and?, receipt_not_send, same_message, same_is, is_same, same_self, listed_has, has_listed}
+use Rattle.order.proofs.Tests.{or_either, or_one, or_other, both_of, both, test?, receipt_not_send, same_message, same_is, is_same, listed_has, has_listed}
 use Rattle.order.proofs.Order.{UpTo, LastStep, last_step, from_last_step, sends_rise, order_inside}
 
 module _ (e : Happening) (us vs : List Happening) where

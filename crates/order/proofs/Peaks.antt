@@ -1,10 +1,10 @@
 -- The least number of messages that must wait at once in a run that has one event before another.
-use Rattle.std.proofs.Common.{◌≡◌, ℕ, zero, suc, ◌+◌, ◌<◌, ◌≤◌, max, T, ◌⊎◌, List, [], ◌∷◌, ◌++◌, length, sym, refl, ap, subst, inl, inr, ⊎_elim, arith}
+use Rattle.std.proofs.Common.{◌≡◌, ℕ, ◌<◌, ◌≤◌, ◌⊎◌, List, [], ◌∷◌, ◌++◌, length, refl, inl, inr, ⊎_elim, arith}
 use Rattle.chart.specs.Content.{Happening, sent, received, message_of}
 use Rattle.order.specs.Lists.{Has, without}
 use Rattle.order.specs.Order.{Scene, Laws, Enforced, drawn, own, held, chain}
-use Rattle.order.specs.Runs.{waits, MaySend, MayReceive, Run, cleared, fired, Reversed, Reverses, CanReverse, peak}
-use Rattle.order.specs.Reversible.{Between, Crowd, CrowdFits, Reversible, LeastWaiting}
+use Rattle.order.specs.Runs.{waits, Run, cleared, fired, Reversed, Reverses, CanReverse, peak}
+use Rattle.order.specs.Reversible.{Crowd, CrowdFits, Reversible, LeastWaiting}
 use Rattle.order.specs.Statements.{LeastPeak}
 use Rattle.order.proofs.Lists.{length_push, without_le}
 use Rattle.order.specs.Pass.{rows}

@@ -1,12 +1,12 @@
 -- Runs are made by phases: a phase sends some of the messages by their numbers, and receives each at once, but for those
 -- that it keeps waiting. So every run can be completed.
-use Rattle.std.proofs.Common.{◌≡◌, ℕ, zero, suc, ◌+◌, ◌<◌, ◌≤◌, T, ◌⊎◌, List, [], ◌∷◌, ◌++◌, map, length, sym, refl, ap, subst, inl, inr, ⊎_elim, arith}
+use Rattle.std.proofs.Common.{◌≡◌, ℕ, zero, suc, ◌<◌, ◌≤◌, T, ◌⊎◌, List, [], ◌∷◌, ◌++◌, map, length, sym, refl, ap, subst, inl, inr, ⊎_elim, arith}
 use mathlib.Core.List.{reverse_aux}
 use native.Mathlib.Decide.{dec_lt}
 use Rattle.chart.specs.Content.{Happening, sent, received, message_of}
-use Rattle.order.specs.Lists.{Has, Once, Ahead, without}
+use Rattle.order.specs.Lists.{Has, Once, Ahead}
 use Rattle.order.specs.Order.{Scene, Laws}
-use Rattle.order.specs.Runs.{waits, MaySend, MayReceive, MayFire, Run, cleared, fired, Complete}
+use Rattle.order.specs.Runs.{waits, MaySend, MayReceive, Run, fired, Complete}
 use Rattle.order.proofs.Lists.{fits, ahead_push, ahead_second, below_suc, without_first}
 use Rattle.order.proofs.Tests.{send_not_receipt, receipt_not_send, same_message, has?, and?, not?}
 use Rattle.order.proofs.Runs.{waiting, waited, waits_once, was_sent}

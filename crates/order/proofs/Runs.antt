@@ -1,9 +1,9 @@
 -- In every run, what is enforced before an event was fired before it.
-use Rattle.std.proofs.Common.{◌≡◌, ℕ, ◌<◌, T, ◌≢◌, ◌⊎◌, List, [], ◌∷◌, ◌++◌, sym, refl, ap, subst, inl, inr, ⊎_elim}
+use Rattle.std.proofs.Common.{ℕ, ◌<◌, T, ◌≢◌, ◌⊎◌, List, [], ◌∷◌, ◌++◌, sym, ap, subst, inl, inr, ⊎_elim}
 use Rattle.chart.specs.Content.{Happening, sent, received, message_of}
-use Rattle.order.specs.Lists.{Has, Once, Ahead, without}
+use Rattle.order.specs.Lists.{Has, Once, Ahead}
 use Rattle.order.specs.Order.{Scene, Enforced, drawn, own, held, chain}
-use Rattle.order.specs.Runs.{waits, MaySend, MayReceive, MayFire, Run, cleared, fired}
+use Rattle.order.specs.Runs.{waits, MayReceive, Run, fired}
 use Rattle.order.proofs.Lists.{has_left, has_right, has_cases, without_keeps, without_kept, without_once, once_push, ahead_left, ahead_join, ahead_without}
 use Rattle.order.proofs.Tests.{send_not_receipt, receipt_not_send, same_message, has?}
 

@@ -1,19 +1,19 @@
 -- A chart over a delivery is a scene with its laws.
-use Rattle.std.proofs.Common.{◌≡◌, ℕ, zero, suc, ◌+◌, ◌%◌, ◌<◌, ◌≤◌, Bool, true, false, cond, not, ◌&&◌, T, eqb, ltb, ◌⊎◌, ◌↔◌, List, [], ◌∷◌, ◌++◌, length, get_or, count_by, sym, refl, ap, ◌∙◌, subst, inl, inr, ⊎_elim, mod-eq_of_lt, arith}
+use Rattle.std.proofs.Common.{◌≡◌, ℕ, zero, suc, ◌+◌, ◌%◌, ◌<◌, ◌≤◌, Bool, true, false, cond, not, ◌&&◌, eqb, ltb, ◌⊎◌, ◌↔◌, List, [], ◌∷◌, length, get_or, count_by, sym, refl, ap, ◌∙◌, subst, inl, inr, mod-eq_of_lt, arith}
 use native.Mathlib.Bridge.{le_prop}
 use Rattle.std.specs.List.{prefix_len}
-use Rattle.std.proofs.lemmas.Bool.{eqb-true, eq-eqb, ne_eqb, ltb-true, lt-ltb, and_parts, and_from, cases_Bool, both_ways, not_from_true, not_from_false}
-use Rattle.chart.specs.Content.{Happening, sent, received, message_of, Content, nobody, sender_of, receiver_of, is_sending, is_sent, is_received, numbered, sent_at, received_at, joins, Inside}
+use Rattle.std.proofs.lemmas.Bool.{eq-eqb, ltb-true, lt-ltb, and_parts, and_from, cases_Bool, both_ways}
+use Rattle.chart.specs.Content.{Happening, sent, received, message_of, Content, nobody, sender_of, receiver_of, is_sending, is_sent, numbered, sent_at}
 use Rattle.chart.proofs.Counting.{count_yes, count_no}
 use Rattle.chart.proofs.Numbering.{at_send, at_receipt, sent_once, inside}
 use Rattle.delivery.specs.declared.parcel.Tag.{Tag}
 use Rattle.delivery.specs.declared.station.Station.{Station}
 use Rattle.order.specs.Lists.{Has}
-use Rattle.order.specs.Order.{Scene, Laws}
+use Rattle.order.specs.Order.{Laws}
 use Rattle.order.specs.Runs.{Complete}
 use Rattle.order.specs.Pass.{same}
 use Rattle.order.specs.Scenes.{Laid, instance_of, number_of, above, station, tag_of, scene_of, event_at, PairAt, AllFired}
-use Rattle.order.proofs.Tests.{to_true, from_true, same_is, is_same, same_self}
+use Rattle.order.proofs.Tests.{to_true, from_true, same_is, is_same}
 
 -- the number of an event among a list of them
 abbrev at : Happening → List Happening → ℕ

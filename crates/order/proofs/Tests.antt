@@ -2,7 +2,7 @@
 use Rattle.std.proofs.Common.{◌≡◌, ℕ, Bool, true, false, ◌&&◌, ◌||◌, T, ◌⊎◌, List, [], ◌∷◌, sym, refl, ap, subst, inl, inr, ⊎_elim, eqb→eq}
 use native.Mathlib.Decide.{map_dec}
 use lib.Dec.{eqb_refl}
-use Rattle.chart.specs.Content.{Happening, sent, received, message_of, is_sent, is_received}
+use Rattle.chart.specs.Content.{Happening, sent, received, message_of}
 use Rattle.order.specs.Lists.{Has}
 use Rattle.order.specs.Pass.{same, listed}
 

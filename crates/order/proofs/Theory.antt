@@ -1,11 +1,10 @@
 -- All that is proved of every scene with its laws.
-use Rattle.std.proofs.Common.{◌≡◌, ℕ, ◌<◌, List, ◌∷◌, ◌++◌, refl, subst}
-use Rattle.chart.specs.Content.{Happening, sent, received}
-use Rattle.order.specs.Order.{Scene, Laws, Enforced}
+use Rattle.std.proofs.Common.{◌∷◌, subst}
+use Rattle.order.specs.Order.{Scene, Laws}
 use Rattle.order.specs.Runs.{Run, Complete}
 use Rattle.order.specs.Pass.{rows}
 use Rattle.order.specs.Statements.{Completes, Theory}
-use Rattle.order.proofs.Order.{along, order_inside}
+use Rattle.order.proofs.Order.{along}
 use Rattle.order.proofs.Pass.{all_right, enforces_is, enforced?, crowd_of, one_size, reverses_is}
 use Rattle.order.proofs.Runs.{run_part, run_once, run_inside, sound}
 use Rattle.order.proofs.Phases.{complete, onward_list}

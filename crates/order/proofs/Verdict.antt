@@ -1,5 +1,5 @@
 -- What holds of every scene, told of a chart over a delivery.
-use Rattle.std.proofs.Common.{◌≡◌, ℕ, ◌<◌, ◌≤◌, Bool, T, ◌↔◌, List, length, vec_len, sym, refl, ap, ◌∙◌, subst, arith}
+use Rattle.std.proofs.Common.{◌≡◌, ℕ, ◌<◌, ◌≤◌, Bool, ◌↔◌, List, length, vec_len, refl, subst, arith}
 use Rattle.chart.specs.Content.{Happening, sent, received, message_of, Content}
 use Rattle.chart.specs.Charted.{content}
 use Rattle.chart.specs.declared.charting.Chart.{Chart}
@@ -9,13 +9,12 @@ use Rattle.order.specs.Order.{Scene, Laws, drawn}
 use Rattle.order.specs.Runs.{Run, Reversed, Reverses, CanReverse, peak}
 use Rattle.order.specs.Reversible.{Reversible, LeastWaiting}
 use Rattle.order.specs.Scenes.{Laid, scene_of, event_at, PairAt}
-use Rattle.order.specs.Statements.{Theory, LeastPeak}
 use Rattle.order.specs.Verdict.{Judged}
 use Rattle.order.proofs.Tests.{from_true}
 use Rattle.order.proofs.Runs.{sound}
 use Rattle.order.proofs.Exact.{needed, sends_wait, at_reversal}
 use Rattle.order.proofs.Theory.{theory}
-use Rattle.order.proofs.Scenes.{Transitive, laws, event_inside, number_of_event, pair_above, all_fired, tag_ends}
+use Rattle.order.proofs.Scenes.{event_inside, number_of_event, pair_above, all_fired, tag_ends}
 use Rattle.order.proofs.Report.{reports}
 
 module _ (c : Content) (rule : Tag → Tag → Bool) (room : ℕ) (laid : Laid c) (law : Laws (scene_of c rule room)) where

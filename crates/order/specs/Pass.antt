@@ -1,5 +1,5 @@
 -- The enforced order in one pass over the messages by their numbers, and the answer that it gives for two events.
-use Rattle.std.specs.Prelude.{ℕ, zero, suc, ◌+◌, Bool, true, false, cond, not, ◌&&◌, ◌||◌, List, [], ◌∷◌, ◌++◌, length, nat_le}
+use Rattle.std.specs.Prelude.{ℕ, zero, suc, ◌+◌, Bool, false, cond, not, ◌&&◌, ◌||◌, List, [], ◌∷◌, ◌++◌, length, nat_le}
 use Rattle.chart.specs.Content.{Happening, sent, received, message_of, is_sent, is_received}
 use Rattle.order.specs.Order.{Scene}
 

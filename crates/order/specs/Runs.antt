@@ -1,5 +1,5 @@
 -- Runs: which events may be fired, and in which orders. A record of firings has the latest event first.
-use Rattle.std.specs.Prelude.{◌≡◌, ℕ, ◌<◌, max, T, List, [], ◌∷◌, ◌++◌, length}
+use Rattle.std.specs.Prelude.{ℕ, ◌<◌, max, T, List, [], ◌∷◌, ◌++◌, length}
 use Rattle.chart.specs.Content.{Happening, sent, received}
 use Rattle.order.specs.Lists.{Has, Ahead, without}
 use Rattle.order.specs.Order.{Scene}

@@ -1,8 +1,8 @@
 -- What is proved of every scene with its laws: any chart, over any delivery.
-use Rattle.std.specs.Prelude.{◌≡◌, ℕ, ◌+◌, ◌*◌, ◌<◌, ◌≤◌, T, ◌↔◌, List, [], ◌∷◌, ◌++◌, length}
+use Rattle.std.specs.Prelude.{◌≡◌, ℕ, ◌+◌, ◌*◌, ◌<◌, ◌≤◌, T, ◌↔◌, List, ◌∷◌, ◌++◌, length}
 use Rattle.chart.specs.Content.{Happening, sent, received, message_of}
 use Rattle.order.specs.Lists.{Has, Once}
-use Rattle.order.specs.Order.{Scene, Laws, Enforced}
+use Rattle.order.specs.Order.{Scene, Enforced}
 use Rattle.order.specs.Runs.{Run, Complete, Reversed, Reverses, CanReverse, peak}
 use Rattle.order.specs.Reversible.{Crowd, Reversible, LeastWaiting}
 use Rattle.order.specs.Pass.{rows, enforces, crowd_size, reverses}

@@ -1,4 +1,4 @@
-use Rattle.std.proofs.Common.{◌≡◌, arith, below_more}
+use Rattle.std.proofs.Common.{arith, below_more}
 use Rattle.chart.proofs.Reading.{at_both}
 use Rattle.chart.proofs.repeats.first_repeat.Goals as goal
 

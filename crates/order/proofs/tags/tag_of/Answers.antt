@@ -1,4 +1,4 @@
-use Rattle.std.proofs.Common.{◌≡◌, ℕ, ◌<◌, ◌≤◌, ◌⊎◌, List, length, get_or, Some, None, vec_items, vec_len, Option, sym, refl, ap, ◌∙◌, subst, inl, inr, arith, MatchOption}
+use Rattle.std.proofs.Common.{◌≡◌, ℕ, ◌<◌, ◌≤◌, ◌⊎◌, List, length, get_or, Some, None, vec_items, vec_len, Option, sym, ap, ◌∙◌, subst, inl, inr, arith, MatchOption}
 use Rattle.std.proofs.lemmas.Bool.{cond-true, cond-false, lt-ltb, le-ltb}
 use Rattle.chart.specs.Charted.{content}
 use Rattle.chart.specs.Content.{Post, nobody, sender_of, receiver_of}
@@ -8,7 +8,7 @@ use Rattle.chart.specs.declared.pieces.Message.{Message}
 use Rattle.chart.proofs.Stored.{message_at, message_count}
 use Rattle.delivery.specs.declared.parcel.Tag.{Tag}
 use Rattle.delivery.specs.declared.station.Station.{Station}
-use Rattle.order.specs.Scenes.{station, tag_of, known_tag}
+use Rattle.order.specs.Scenes.{station, known_tag}
 use Rattle.order.proofs.Scenes.{ends_few, station_is}
 use Rattle.order.proofs.Verdict.{chart_laid}
 use Rattle.order.proofs.tags.tag_of.Goals as goal
@@ -62,7 +62,7 @@ module _ (chart : Chart) (m : ℕ) (xs : List Message) (is : xs ≡ vec_items ch
 
 pub returns-in_err-ends : goal.returns-in_err-ends
 returns-in_err-ends c =
-    c.from-residual.ensures ∙ sym (unknown c.args.chart.now c.args.message.0 c.messages.result.now c.messages.ensures c.in_err-ends.ensures.lookup.3)
+    c.from_residual.ensures ∙ sym (unknown c.args.chart.now c.args.message.0 c.messages.result.now c.messages.ensures c.in_err-ends.ensures.lookup.3)
 
 pub returns : goal.returns
 returns c =

@@ -1,12 +1,10 @@
-use Rattle.std.proofs.Common.{◌≡◌, ℕ, ◌<◌, ◌≤◌, false, ltb, length, Ok, vec_items, vec_len, sym, refl, ap, ◌∙◌, subst, arith}
+use Rattle.std.proofs.Common.{◌≡◌, ℕ, ◌<◌, false, ltb, Ok, vec_len, sym, refl, ap, ◌∙◌, subst, arith}
 use Rattle.std.proofs.lemmas.List.{length_push}
 use Rattle.std.proofs.lemmas.Bool.{ltb-false}
 use Rattle.chart.specs.Content.{received}
 use Rattle.chart.specs.Drafted.{drafted}
 use Rattle.chart.specs.Drafting.{times_received, with_receipt}
-use Rattle.chart.specs.Shown.{content_of}
 use Rattle.chart.specs.declared.drafting.Draft.{Draft}
-use Rattle.chart.specs.declared.pieces.Parts.{Parts}
 use Rattle.chart.proofs.Additions.{Growing, receipt_grows, few_events}
 use Rattle.chart.proofs.Invariants.{growing, kept}
 use Rattle.chart.proofs.Judging.{not_sent, again, is_received_lem}

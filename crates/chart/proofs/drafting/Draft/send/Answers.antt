@@ -1,14 +1,12 @@
-use Rattle.std.proofs.Common.{◌≡◌, ℕ, ◌<◌, ◌≤◌, false, length, Ok, vec_items, vec_len, sym, refl, ap, ◌∙◌, subst, arith}
+use Rattle.std.proofs.Common.{◌≡◌, ℕ, ◌<◌, false, length, Ok, vec_len, sym, refl, ap, ◌∙◌, subst, arith}
 use Rattle.std.proofs.lemmas.List.{length_push}
 use Rattle.std.proofs.lemmas.Bool.{eqb-true, eqb-false}
-use Rattle.chart.specs.Content.{Post, sent}
+use Rattle.chart.specs.Content.{sent}
 use Rattle.chart.specs.Drafted.{drafted}
 use Rattle.chart.specs.Drafting.{message_called, with_message}
 use Rattle.chart.specs.Names.{text_of}
-use Rattle.chart.specs.Shown.{content_of}
 use Rattle.chart.specs.Words.{Text}
 use Rattle.chart.specs.declared.drafting.Draft.{Draft}
-use Rattle.chart.specs.declared.pieces.Parts.{Parts}
 use Rattle.chart.proofs.Additions.{Growing, message_grows, few_events}
 use Rattle.chart.proofs.Invariants.{growing, kept}
 use Rattle.chart.proofs.Judging.{named_so, named_twice, too_many, no_sender, no_receiver, to_itself, is_sent, joined}
