@@ -10,7 +10,7 @@ use Rattle.reader.proofs.reading.read_chart.Goals as goal
 
 pub returns-in_err-rest-2 : goal.returns-in_err-rest-2
 returns-in_err-rest-2 c =
-    let p = err_from_is_err_and c.from-residual-in_err-rest-2.result c.from-residual-in_err-rest-2.ensures.1 in
+    let p = err_from_is_err_and c.from_residual-in_err-rest-2.result c.from_residual-in_err-rest-2.ensures.1 in
     rw (p.1, p.2)
     (title_goes c.args.text.now c.in_ok-rest.rest.now c.next_token.result.1.now c.in-Word.word.now (text_of c.in_ok-title.title) c.in-Word.at
     c.if-whole-gt-TEXT_LIMIT.false c.in_ok-rest.ensures (sym (ap seen c.in-Word.is) ∙ c.next_token.ensures.token) c.next_token.ensures.rest c.in_ok-title.ensures

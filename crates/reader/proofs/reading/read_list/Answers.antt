@@ -8,7 +8,7 @@ use Rattle.reader.proofs.reading.read_list.Goals as goal
 
 pub returns-in_err-chart : goal.returns-in_err-chart
 returns-in_err-chart c =
-    let p = err_from_is_err_and c.from-residual-in_err-chart.result c.from-residual-in_err-chart.ensures.1 in
+    let p = err_from_is_err_and c.from_residual-in_err-chart.result c.from_residual-in_err-chart.ensures.1 in
     rw (p.1, p.2)
     (list_goes c.args.whole (text_of c.args.title) c.args.rest.now c.in_ok-rest.rest.now c.next_token.result.1.now c.in-Word.word.now (text_of c.in_ok-first.first) c.in-Word.at (drafted c.in_ok-draft.draft)
     c.in_ok-rest.ensures (sym (ap seen c.in-Word.is) ∙ c.next_token.ensures.token) c.next_token.ensures.rest c.in_ok-first.ensures c.in_ok-draft.ensures

@@ -25,7 +25,7 @@ loop-after-init c = (suc (length c.args.rest.now), omega arith, refl)
 
 pub returns-in_err-after : goal.returns-in_err-after
 returns-in_err-after c =
-    let p = err_from_is_err_and c.from-residual.result c.from-residual.ensures.1 in
+    let p = err_from_is_err_and c.from_residual.result c.from_residual.ensures.1 in
     rw (p.1, p.2)
     (sym (unroll c.args.part c.loop-after.invariant.0 c.args.whole (drafted c.loop-after.draft) c.loop-after.unread.now (Err c.in_err-after.field-0.0) c.loop-after.invariant.1 c.in_err-after.ensures).2 ∙ c.loop-after.invariant.2)
 
