@@ -1,6 +1,6 @@
 -- What a chart says, free of how it is stored.
 use Rattle.std.specs.Prelude.{◌≡◌, ℕ, suc, ◌<◌, ◌≤◌, Bool, true, false, not, ◌&&◌, List, [], ◌∷◌, map, length, get_or, take, count_by, ◌==◌, nat_lt, slice_index_or}
-use Rattle.std.specs.List.{prefix_len, AllByRecursion as All}
+use Rattle.std.specs.List.{prefix_len, AllByRecursion}
 use Rattle.chart.specs.Words.{Text, is_name}
 use Rattle.chart.specs.Lookup.{among}
 
@@ -112,8 +112,8 @@ pub record WellFormed (c : Content) : Type 0 where
   pub some_instance : 0 < length c.instances
   pub few_instances : length c.instances ≤ 16
   pub few_messages : length c.messages ≤ 64
-  pub instance_names : All (λ t. is_name t ≡ true) c.instances
-  pub names_of_messages : All (λ t. is_name t ≡ true) (message_names c)
+  pub instance_names : AllByRecursion (λ t. is_name t ≡ true) c.instances
+  pub names_of_messages : AllByRecursion (λ t. is_name t ≡ true) (message_names c)
   pub instances_apart : InstancesApart c
   pub messages_apart : MessagesApart c
   pub all_join : AllJoin c

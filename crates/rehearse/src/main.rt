@@ -12,6 +12,7 @@ use chart::charting::Chart;
 use failures::{Failure, refused};
 use input::{Source, text_of};
 use reader::reading::read;
+use std::process::ExitCode;
 use table::print_chart;
 
 fn show(rt: &HostRuntime, source: &Source) -> Result<(), Failure> {
@@ -33,11 +34,13 @@ fn run(rt: &HostRuntime) -> Result<(), Failure> {
     }
 }
 
-fn main(rt: HostRuntime) -> Result<(), Failure> {
-    let done = run(&rt);
-    if let Err(failure) = &done {
-        // where standard error is closed too, the status alone tells
-        let _ = rt.eprintln(failure);
+fn main(rt: HostRuntime) -> ExitCode {
+    match run(&rt) {
+        Ok(()) => ExitCode::SUCCESS,
+        Err(failure) => {
+            // where standard error is closed too, the status alone tells
+            let _ = rt.eprintln(&failure);
+            ExitCode::FAILURE
+        }
     }
-    done
 }

@@ -46,11 +46,13 @@ fn run(rt: &HostRuntime) -> Result<(), Failure> {
     }
 }
 
-fn main(rt: HostRuntime) -> Result<(), Failure> {
-    let done = run(&rt);
-    if let Err(failure) = &done {
-        // where standard error is closed too, the status alone tells
-        let _ = rt.eprintln(failure);
+fn main(rt: HostRuntime) -> ExitCode {
+    match run(&rt) {
+        Ok(()) => ExitCode::SUCCESS,
+        Err(failure) => {
+            // where standard error is closed too, the status alone tells
+            let _ = rt.eprintln(&failure);
+            ExitCode::FAILURE
+        }
     }
-    done
 }
