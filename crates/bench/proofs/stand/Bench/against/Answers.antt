@@ -1,6 +1,5 @@
-use Rattle.std.proofs.Common.{◌≡◌, Bool, true, false, T, List, IfNone, Some, None, vec_items, Option, sym, refl, ap, ◌∙◌, subst, ⊎_elim}
+use Rattle.std.proofs.Common.{◌≡◌, Bool, true, false, List, IfNone, vec_items, Option, sym, ap, ◌∙◌, subst}
 use Rattle.std.proofs.lemmas.Bool.{both_ways}
-use Rattle.chart.specs.Charted.{drawn}
 use Rattle.chart.specs.Content.{Content, sent, message_of}
 use Rattle.chart.specs.declared.numbers.EventId.{EventId}
 use Rattle.order.specs.Lists.{Has}
