@@ -14,4 +14,4 @@ pub invariant_of-self-2 : goal.invariant_of-self-2
 invariant_of-self-2 g c =
     let n = c.args.message.0 in
     let found = rw c.deref.ensures.value at c.in-Some.ensures.2 in
-    (search rules, (search rules, (search rules, (search rules, (ap distinct (c.remove.ensures.items ∙ sym found) ∙ distinct_without n _ c.args.self.now.once, tt)))))
+    record { some = search rules; few = search rules; reserved = search rules; fits = search rules; once = ap distinct (c.remove.ensures.items ∙ sym found) ∙ distinct_without n _ c.args.self.now.once }
