@@ -20,6 +20,7 @@ use failures::{Failure, refused};
 use input::{Source, text_of};
 use piles::print_all;
 use reader::reading::read;
+use std::process::ExitCode;
 use wiring::Wiring;
 
 fn show(
