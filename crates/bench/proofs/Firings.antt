@@ -1,26 +1,24 @@
 -- The tests of a firing are the rules of runs.
-use Rattle.std.proofs.Common.{◌≡◌, ℕ, zero, suc, ◌<◌, ◌≤◌, Bool, true, false, ◌&&◌, T, eqb, ltb, List, [], ◌∷◌, ◌++◌, length, Some, None, Ok, Err, Option, Result, sym, refl, ap, ◌∙◌, subst, arith}
+use Rattle.std.proofs.Common.{◌≡◌, ℕ, zero, suc, ◌<◌, ◌≤◌, false, ◌&&◌, T, eqb, ltb, List, [], ◌∷◌, ◌++◌, length, Some, None, Ok, Err, Result, sym, refl, ap, ◌∙◌, subst, arith}
 use Rattle.std.proofs.lemmas.Bool.{and_parts, eqb-true, ltb-true}
 use Rattle.chart.specs.Charted.{drawn}
 use Rattle.chart.specs.Content.{Happening, sent, received, message_of, Content, sender_of, sent_at}
 use Rattle.chart.specs.declared.numbers.EventId.{EventId}
-use Rattle.delivery.specs.Answers.{Welcome}
 use Rattle.delivery.specs.Waiting.{message_limit, waits_in, parcel_of, ahead_of, without, first_holder}
 use Rattle.delivery.specs.declared.parcel.Parcel.{Parcel}
-use Rattle.delivery.specs.declared.parcel.Tag.{Tag}
 use Rattle.order.specs.Lists.{Has}
-use Rattle.order.specs.Order.{Scene, Laws}
-use Rattle.order.specs.Parcels.{parcel_of_message, parcels, waiting_after}
+use Rattle.order.specs.Order.{Laws}
+use Rattle.order.specs.Parcels.{parcel_of_message, waiting_after}
 use Rattle.order.specs.Runs.{waits, MaySend, MayReceive, MayFire, Run, fired}
-use Rattle.order.specs.Scenes.{Laid, instance_of, number_of, above, tag_of, scene_of, event_at, PairAt}
+use Rattle.order.specs.Scenes.{Laid, instance_of, number_of, above, tag_of, event_at, PairAt}
 use Rattle.order.proofs.Parcels.{parcels_length, parcels_push, waits_in_not, parcel_of_has, parcels_without, unheld}
 use Rattle.order.proofs.Runs.{waiting, waited, waits_once}
 use Rattle.order.proofs.Scenes.{event_inside, number_of_event, event_of_message, pair_above}
 use Rattle.order.proofs.Tests.{to_true, from_true, has?}
-use Rattle.bench.specs.Firings.{Lacks, FirstLacking, StopsSend, StopsReceipt, Stops}
+use Rattle.bench.specs.Firings.{Lacks, StopsSend, StopsReceipt, Stops}
 use Rattle.bench.specs.Records.{past}
 use Rattle.bench.specs.Refusals.{obstacle_number}
-use Rattle.bench.specs.States.{Stage, scene_on, Play, State}
+use Rattle.bench.specs.States.{Stage, scene_on, State}
 use Rattle.bench.specs.Steps.{LeastObstacle, Against, HandedOn}
 use Rattle.bench.specs.declared.refusal.Obstacle.{Obstacle}
 use Rattle.bench.specs.declared.refusal.Obstacle.TheVariants.{InRecord, AboveMissing, OutMissing, Full, Held}

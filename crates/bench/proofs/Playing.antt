@@ -1,13 +1,13 @@
 -- Which refusal begin, advance and close give.
-use Rattle.std.proofs.Common.{◌≡◌, ℕ, ◌+◌, ◌*◌, ◌<◌, ◌≤◌, Bool, true, false, ◌⊎◌, List, [], ◌∷◌, ◌++◌, map, length, get_or, take, is_some, Some, None, Ok, Err, Option, Result, sym, refl, ap, ◌∙◌, subst, inl, inr, arith}
+use Rattle.std.proofs.Common.{◌≡◌, ℕ, ◌+◌, ◌*◌, ◌<◌, ◌≤◌, true, false, List, [], ◌∷◌, ◌++◌, map, length, take, is_some, Some, None, Option, sym, ap, ◌∙◌, inl, inr, arith}
 use Rattle.std.proofs.lemmas.List.{length-map, length-take-le, map_more}
-use Rattle.std.proofs.lemmas.Bool.{both_ways, true≢false}
+use Rattle.std.proofs.lemmas.Bool.{both_ways}
 use Rattle.chart.specs.declared.numbers.EventId.{EventId}
-use Rattle.bench.specs.Benches.{play_at, InStep}
-use Rattle.bench.specs.Firings.{Bars, FiredNext}
-use Rattle.bench.specs.Plays.{Unplayable, BarsBegin, BarsNext, BarsClose, Onward, Ended, next_of, with_play}
+use Rattle.bench.specs.Benches.{InStep}
+use Rattle.bench.specs.Firings.{Bars}
+use Rattle.bench.specs.Plays.{Unplayable, BarsBegin, BarsNext, BarsClose, next_of}
 use Rattle.bench.specs.Refusals.{obstacle_number, refusal_number}
-use Rattle.bench.specs.Schedules.{entry, decoded, entry_at, BadAt, FirstBad}
+use Rattle.bench.specs.Schedules.{entry, decoded, BadAt}
 use Rattle.bench.specs.States.{Stage, Play, State, Least}
 use Rattle.bench.specs.declared.refusal.Obstacle.{Obstacle}
 use Rattle.bench.specs.declared.refusal.Obstacle.TheVariants.{InRecord, AboveMissing, OutMissing, Full, Held}

@@ -3,7 +3,7 @@ use Rattle.std.proofs.Common.{◌≡◌, ℕ, zero, suc, ◌<◌, ◌≤◌, tru
 use mathlib.Core.List.{reverse-cons}
 use Rattle.std.proofs.lemmas.List.{map_push, reverse-append, length-map}
 use Rattle.std.proofs.lemmas.Bool.{both_ways, false≢true, or_cases, or_parts, or_from, or_left, or_right, and_parts, and_from, not-true, not_from_false, eqb-true, eqb-false, eq-eqb, ne_eqb, ltb-true, lt-ltb}
-use Rattle.chart.specs.Content.{Happening, Content}
+use Rattle.chart.specs.Content.{Content}
 use Rattle.chart.specs.declared.numbers.EventId.{EventId}
 use Rattle.order.specs.Lists.{Has, Once}
 use Rattle.order.specs.Scenes.{Laid, event_at, number_of}

@@ -1,12 +1,11 @@
 -- Which refusal is the one with the smallest number.
-use Rattle.std.proofs.Common.{◌≡◌, ℕ, ◌<◌, ◌≤◌, List, length, Some, None, Option, sym, refl, ap, ◌∙◌, subst, arith}
+use Rattle.std.proofs.Common.{◌≡◌, ℕ, ◌<◌, ◌≤◌, length, None, sym, refl, arith}
 use Rattle.chart.specs.Charted.{drawn}
-use Rattle.chart.specs.Content.{Happening, sent, received, message_of, Content}
+use Rattle.chart.specs.Content.{Happening, sent, received, message_of}
 use Rattle.chart.specs.declared.numbers.EventId.{EventId}
-use Rattle.chart.specs.declared.pieces.Side.{Side}
 use Rattle.chart.specs.declared.pieces.Side.TheVariants.{Out, In}
 use Rattle.order.specs.Lists.{Has}
-use Rattle.order.specs.Scenes.{event_at, instance_of}
+use Rattle.order.specs.Scenes.{event_at}
 use Rattle.bench.specs.Firings.{Lacks, FirstLacking, Stops, Bars, firing_of}
 use Rattle.bench.specs.Records.{past}
 use Rattle.bench.specs.Refusals.{obstacle_number, refusal_number}

@@ -1,9 +1,9 @@
 -- What the bytes of a schedule say, and which record is the first bad one.
-use Rattle.std.proofs.Common.{◌≡◌, ℕ, zero, suc, ◌+◌, ◌*◌, ◌<◌, ◌≤◌, Bool, true, false, eqb, ◌⊎◌, List, [], ◌∷◌, length, get_or, take, Some, None, Option, sym, refl, ap, ◌∙◌, subst, inl, inr, arith}
+use Rattle.std.proofs.Common.{◌≡◌, ℕ, zero, suc, ◌+◌, ◌*◌, ◌<◌, ◌≤◌, true, false, List, [], ◌∷◌, length, get_or, take, Some, None, Option, sym, refl, ap, ◌∙◌, subst, inl, inr, arith}
 use Rattle.std.proofs.lemmas.List.{get_or-take, length-take-le, take_all}
-use Rattle.std.proofs.lemmas.Bool.{both_ways, cases_Bool, eq-eqb, ne_eqb}
+use Rattle.std.proofs.lemmas.Bool.{both_ways}
 use Rattle.chart.specs.Content.{Content}
-use Rattle.chart.specs.Repeats.{RepeatAt, Apart, FirstRepeat}
+use Rattle.chart.specs.Repeats.{Apart, FirstRepeat}
 use Rattle.bench.specs.Schedules.{entry, decoded, entry_at, same_event, fits, BadAt, FirstBad, Walked, Read}
 use Rattle.bench.specs.declared.schedule.Entry.{Entry}
 
@@ -23,11 +23,6 @@ decoded_at (x ∷ y ∷ bs) (suc k) l =
     ap (λ i. entry (get_or (x ∷ y ∷ bs) i 0) (get_or (x ∷ y ∷ bs) (2 * suc k + 1) 0)) a
     ∙ ap (λ j. entry (get_or bs (2 * k) 0) (get_or (x ∷ y ∷ bs) j 0)) b
     ∙ decoded_at bs k (omega arith)
-
--- a test that is true just if two numbers are one
-pub decides : (b : Bool) (m n : ℕ) → (b ≡ true → m ≡ n) → (m ≡ n → b ≡ true) → b ≡ eqb m n
-decides true m n to from = sym (eq-eqb m n (to refl))
-decides false m n to from = sym (ne_eqb m n (λ e. both_ways false refl (from e)))
 
 module _ (c : Content) (es : List Entry) where
   -- no record is bad of those that fit and are apart

@@ -1,5 +1,5 @@
 -- How a bench stays sound.
-use Rattle.std.proofs.Common.{◌≡◌, ℕ, ◌<◌, ◌≤◌, Bool, true, false, ◌⊎◌, List, [], ◌∷◌, ◌++◌, length, is_some, Some, None, Ok, Err, vec_items, vec_len, Option, Result, sym, refl, ap, ◌∙◌, subst, inl, inr, ⊎_elim, arith, MatchResult}
+use Rattle.std.proofs.Common.{◌≡◌, ℕ, ◌<◌, ◌≤◌, Bool, true, false, List, [], ◌∷◌, ◌++◌, length, is_some, Some, None, Ok, Err, vec_items, vec_len, Option, Result, sym, refl, ap, ◌∙◌, subst, inr, ⊎_elim, arith}
 use Rattle.std.proofs.lemmas.Bool.{both_ways, true≢false}
 use Rattle.chart.specs.Charted.{content}
 use Rattle.chart.specs.Content.{Content}
@@ -13,14 +13,14 @@ use Rattle.order.specs.Lists.{Has}
 use Rattle.order.specs.Parcels.{waiting_after}
 use Rattle.order.specs.Runs.{MayFire, Run}
 use Rattle.order.specs.Runs as runs
-use Rattle.order.specs.Scenes.{Laid, event_at}
+use Rattle.order.specs.Scenes.{Laid}
 use Rattle.order.proofs.Lists.{has_cases}
 use Rattle.order.proofs.Scenes.{Transitive, laws}
 use Rattle.bench.specs.Benches.{play_at, InStep, stage_of, state_of, Sound, Same}
 use Rattle.bench.specs.Firings.{Bars, BarsFire, BarsClear, ByRules, MayFireNext, Tried, Fired}
 use Rattle.bench.specs.Layouts.{copied}
 use Rattle.bench.specs.Records.{past}
-use Rattle.bench.specs.States.{Stage, scene_on, Play, State, Least, Does}
+use Rattle.bench.specs.States.{Stage, scene_on, Play, State, Least}
 use Rattle.bench.specs.Refusals.{refusal_number}
 use Rattle.bench.specs.declared.refusal.Obstacle.TheVariants.{InRecord, AboveMissing, OutMissing, Full, Held}
 use Rattle.bench.specs.declared.refusal.Refusal.{Refusal}

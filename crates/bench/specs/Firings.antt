@@ -14,7 +14,6 @@ use Rattle.bench.specs.declared.refusal.Obstacle.TheVariants.{InRecord, AboveMis
 use Rattle.bench.specs.declared.refusal.Refusal.{Refusal}
 use Rattle.bench.specs.declared.refusal.Refusal.TheVariants.{PlayOpen, NotInChart, Unfired, RecordNotEmpty, BadSchedule, NoPlay, NoEventLeft}
 use Rattle.bench.specs.Records.{past}
-use Rattle.bench.specs.Refusals.{obstacle_number}
 use Rattle.bench.specs.States.{Stage, scene_on, Play, State, cleared, Does}
 
 -- x stands above the event e at its instance, and is not in the record r

@@ -1,7 +1,7 @@
 -- Schedules: what their bytes say, and which of their records are bad.
 use Rattle.std.specs.Prelude.{◌≡◌, ℕ, ◌<◌, Bool, true, false, ◌&&◌, ◌⊎◌, List, [], ◌∷◌, length, take, Some, None, Option, ◌==◌, nat_lt, slice_index_or}
 use Rattle.chart.specs.Content.{message_of, Content}
-use Rattle.chart.specs.Repeats.{RepeatAt, Apart}
+use Rattle.chart.specs.Repeats.{RepeatAt}
 use Rattle.order.specs.Scenes.{event_at}
 use Rattle.bench.specs.declared.schedule.Entry.{Entry}
 

@@ -1,5 +1,5 @@
 -- What a bench is opened over, what can be seen of it, and what a call does to that.
-use Rattle.std.specs.Prelude.{◌≡◌, ℕ, ◌<◌, Bool, List, [], Some, None, Ok, Err, Option, Result}
+use Rattle.std.specs.Prelude.{◌≡◌, ℕ, ◌<◌, Bool, List, [], None, Ok, Err, Option, Result}
 use Rattle.chart.specs.Content.{Content}
 use Rattle.chart.specs.declared.numbers.EventId.{EventId}
 use Rattle.delivery.specs.Answers.{Ground}

@@ -1,12 +1,12 @@
 -- The steps of a firing: what the record says against an event, and what the delivery then answers.
-use Rattle.std.specs.Prelude.{◌≡◌, ℕ, ◌<◌, ◌≤◌, Bool, false, List, [], ◌∷◌, ◌++◌, length, Some, None, Ok, Err, Option, Result}
+use Rattle.std.specs.Prelude.{◌≡◌, ℕ, ◌<◌, ◌≤◌, Bool, List, [], ◌∷◌, ◌++◌, length, Some, None, Ok, Err, Option, Result}
 use Rattle.chart.specs.Content.{Happening}
 use Rattle.chart.specs.declared.numbers.EventId.{EventId}
 use Rattle.chart.specs.declared.numbers.MessageId.{MessageId}
 use Rattle.chart.specs.declared.pieces.Side.{Side}
 use Rattle.chart.specs.declared.pieces.Side.TheVariants.{Out, In}
 use Rattle.delivery.specs.Answers.{Ground, full, held, Welcome, Named}
-use Rattle.delivery.specs.Waiting.{waits_in, parcel_of, ahead_of, without, first_holder}
+use Rattle.delivery.specs.Waiting.{parcel_of, ahead_of, without, first_holder}
 use Rattle.delivery.specs.declared.meaning.Delivery.{Ghosts}
 use Rattle.delivery.specs.declared.parcel.Parcel.{Parcel}
 use Rattle.delivery.specs.declared.parcel.Tag.{Tag}
@@ -15,7 +15,6 @@ use Rattle.bench.specs.declared.refusal.Obstacle.{Obstacle}
 use Rattle.bench.specs.declared.refusal.Obstacle.TheVariants.{Full, Held}
 use Rattle.bench.specs.Firings.{Stops}
 use Rattle.bench.specs.Refusals.{obstacle_number}
-use Rattle.bench.specs.Records.{fired_in}
 use Rattle.bench.specs.States.{Stage, State}
 
 -- of the obstacles in an event's way, the one with the smallest number

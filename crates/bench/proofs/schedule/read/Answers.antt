@@ -1,4 +1,4 @@
-use Rattle.std.proofs.Common.{◌≡◌, List, Some, None, vec_items, sym, ◌∙◌, subst}
+use Rattle.std.proofs.Common.{Some, None, vec_items, ◌∙◌, subst}
 use Rattle.chart.specs.Repeats.{FirstRepeat}
 use Rattle.bench.specs.Schedules.{decoded, same_event}
 use Rattle.bench.proofs.Schedules.{read_repeat, read_clean}

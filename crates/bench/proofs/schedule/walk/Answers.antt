@@ -1,6 +1,6 @@
-use Rattle.std.proofs.Common.{◌≡◌, ℕ, ◌+◌, ◌*◌, ◌<◌, ◌≤◌, true, false, List, [], ◌∷◌, ◌++◌, length, get_or, take, vec_items, vec_len, sym, refl, ap, ◌∙◌, arith, below_more}
+use Rattle.std.proofs.Common.{◌+◌, ◌*◌, ◌<◌, [], ◌∷◌, ◌++◌, length, get_or, take, vec_items, vec_len, sym, refl, ap, ◌∙◌, arith, below_more}
 use Rattle.std.proofs.lemmas.List.{nil_from_length, take_more, take_all}
-use Rattle.bench.specs.Schedules.{entry, decoded, entry_at, fits}
+use Rattle.bench.specs.Schedules.{entry, decoded, fits}
 use Rattle.bench.specs.declared.schedule.Entry.{Entry}
 use Rattle.bench.proofs.Schedules.{decoded_length, decoded_at}
 use Rattle.bench.proofs.schedule.walk.Goals as goal

@@ -1,5 +1,5 @@
 use Rattle.std.proofs.Common.{◌≡◌, ℕ, ◌<◌, true, not, ◌&&◌, eqb, get_or, vec_items, vec_len, sym, ap, ◌∙◌, arith}
-use Rattle.std.proofs.lemmas.Bool.{both_ways, eq-eqb, ne_eqb, and_left}
+use Rattle.std.proofs.lemmas.Bool.{and_left}
 use Rattle.chart.specs.Content.{Content}
 use Rattle.order.specs.Scenes.{event_at, instance_of}
 use Rattle.bench.specs.Layouts.{copied}
@@ -16,10 +16,10 @@ here l e p low is c copy =
 pub returns-then-eq : goal.returns-then-eq
 returns-then-eq c = λ content copy.
     let at = here c.args.self.now c.args.event.0 c.index.result.now c.requires c.index.ensures content copy in
-    let same : eqb (instance_of content (event_at content c.args.event.0)) c.args.instance.0 ≡ true = eq-eqb _ _ (sym at ∙ c.eq.ensures.0 c.if-eq.true) in
+    let same : eqb (instance_of content (event_at content c.args.event.0)) c.args.instance.0 ≡ true = sym (ap (λ n. eqb n c.args.instance.0) at) ∙ sym c.eq.ensures ∙ c.if-eq.true in
     ap not c.has_fired.ensures ∙ sym (ap (λ b. b && not (fired_in c.args.event.0 c.args.fired.now)) same)
 
 pub returns-else-eq : goal.returns-else-eq
 returns-else-eq c = λ content copy.
     let at = here c.args.self.now c.args.event.0 c.index.result.now c.requires c.index.ensures content copy in
-    c.if-eq.false ∙ sym (and_left _ _ (ne_eqb _ _ (λ q. both_ways c.eq.result c.if-eq.false (c.eq.ensures.1 (at ∙ q)))))
+    c.if-eq.false ∙ sym (and_left _ _ (sym (ap (λ n. eqb n c.args.instance.0) at) ∙ sym c.eq.ensures ∙ c.if-eq.false))

@@ -32,7 +32,7 @@ returns-then-sends c = λ content copy.
     let i = c.loop-e.e-index in
     let step = at_drop_more (λ (q : List EventId). listed (sent m) (happenings content q)) r i blank c.loop-e-test.true in
     let is = told c.args.self.now r i m c.index.result.now c.requires c.loop-e-test.true c.index.ensures content copy in
-    sym (sym (c.loop-e.invariant content copy) ∙ step ∙ or_left (same (sent m) (event_at content (get_or r i blank).0)) (listed (sent m) (happenings content (drop (i + 1) r))) (sym is ∙ sym c.sends.ensures ∙ c.if_sends.true))
+    sym (sym (c.loop-e.invariant content copy) ∙ step ∙ or_left (same (sent m) (event_at content (get_or r i blank).0)) (listed (sent m) (happenings content (drop (i + 1) r))) (sym is ∙ sym c.sends.ensures ∙ c.if-sends.true))
 
 pub loop-e-preserved : goal.loop-e-preserved
 loop-e-preserved c = λ content copy.
@@ -41,7 +41,7 @@ loop-e-preserved c = λ content copy.
     let i = c.loop-e.e-index in
     let step = at_drop_more (λ (q : List EventId). listed (sent m) (happenings content q)) r i blank c.loop-e-test.true in
     let is = told c.args.self.now r i m c.index.result.now c.requires c.loop-e-test.true c.index.ensures content copy in
-    let other = sym is ∙ sym c.sends.ensures ∙ c.if_sends.false in
+    let other = sym is ∙ sym c.sends.ensures ∙ c.if-sends.false in
     sym (step ∙ ap (λ b. b || listed (sent m) (happenings content (drop (i + 1) r))) other) ∙ c.loop-e.invariant content copy
 
 pub returns : goal.returns

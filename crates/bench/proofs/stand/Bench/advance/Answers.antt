@@ -1,13 +1,12 @@
-use Rattle.std.proofs.Common.{◌≡◌, ℕ, ◌+◌, ◌<◌, ◌≤◌, List, [], ◌∷◌, ◌++◌, length, get_or, Some, None, Ok, Err, vec_items, vec_len, Option, Vec, sym, refl, ap, ◌∙◌, subst, arith}
+use Rattle.std.proofs.Common.{◌≡◌, ℕ, ◌+◌, ◌<◌, ◌≤◌, [], ◌∷◌, ◌++◌, length, get_or, Some, Ok, Err, vec_items, vec_len, Vec, sym, refl, ap, subst, arith}
 use Rattle.std.specs.declared.alloc.Global.{Global}
 use Rattle.std.proofs.lemmas.List.{get_or_read}
-use Rattle.chart.specs.declared.numbers.EventId.{EventId}
 use Rattle.bench.specs.Benches.{play_at, InStep, stage_of, state_of}
-use Rattle.bench.specs.Firings.{Bars, Tried}
+use Rattle.bench.specs.Firings.{Tried}
 use Rattle.bench.specs.Plays.{BarsNext, Onward, next_of}
 use Rattle.bench.specs.Schedules.{entry}
 use Rattle.bench.specs.States.{Play, State, Least, Does}
-use Rattle.bench.specs.declared.refusal.Refusal.TheVariants.{NoPlay, NoEventLeft}
+use Rattle.bench.specs.declared.refusal.Refusal.TheVariants.{NoEventLeft}
 use Rattle.bench.specs.declared.schedule.Entry.{Entry}
 use Rattle.bench.proofs.Standing.{unmoved, same_state, goes, unchanged}
 use Rattle.bench.proofs.Playing.{no_play, none_left, next_free, next_barred, step_more}

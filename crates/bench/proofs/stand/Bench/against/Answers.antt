@@ -1,6 +1,5 @@
-use Rattle.std.proofs.Common.{◌≡◌, Bool, true, false, T, List, IfNone, Some, None, vec_items, Option, sym, refl, ap, ◌∙◌, subst, ⊎_elim}
+use Rattle.std.proofs.Common.{◌≡◌, Bool, true, false, List, IfNone, vec_items, Option, sym, ap, ◌∙◌, subst}
 use Rattle.std.proofs.lemmas.Bool.{both_ways}
-use Rattle.chart.specs.Charted.{drawn}
 use Rattle.chart.specs.Content.{Content, sent, message_of}
 use Rattle.chart.specs.declared.numbers.EventId.{EventId}
 use Rattle.order.specs.Lists.{Has}
@@ -48,24 +47,24 @@ returns-then-has_fired g c =
       says = λ st w play copy is. in_record st (record { fired = r; waiting = w; play = play }) e (event_at st.chart e.0) (in_has e r (tested (fired_in e.0) c.has_fired.ensures c.deref.ensures.value c.if-has_fired.true));
     }
 
-pub returns-in_err-first : goal.returns-in_err-first
-returns-in_err-first g c =
+pub returns-in_err-first-in-Out : goal.returns-in_err-first-in-Out
+returns-in_err-first-in-Out g c =
     let e = c.args.event in
     let r = vec_items c.args.self.now.fired in
     let fresh = tested (fired_in e.0) c.has_fired.ensures c.deref.ensures.value c.if-has_fired.false in
     record {
-      fresh = subst (λ (o : Option Obstacle). IfNone o (fired_in e.0 r ≡ false)) (sym c.from-residual.ensures) fresh;
+      fresh = subst (λ (o : Option Obstacle). IfNone o (fired_in e.0 r ≡ false)) (sym c.from_residual.ensures) fresh;
       says = λ st w play copy is.
           let h = event_at st.chart e.0 in
           let s : State = record { fired = r; waiting = w; play = play } in
           let side = sym (ap (λ (q : Placed). q.line.side) is) ∙ c.in-Out.is in
-          let none = c.in_err-first.ensures st.chart copy (instance_at st.chart e c.args.place is) in
-          subst (λ (o : Option Obstacle). Against st s e h o) (sym c.from-residual.ensures)
+          let none = c.in_err-first-in-Out.ensures st.chart copy (instance_at st.chart e c.args.place is) in
+          subst (λ (o : Option Obstacle). Against st s e h o) (sym c.from_residual.ensures)
           (none_above st s e (not_in e r fresh) h side (subst (λ q. (x : EventId) → Lacks st.chart q e x → ⊥) c.deref-in-Out.ensures.value none));
     }
 
-pub returns-in_ok-first : goal.returns-in_ok-first
-returns-in_ok-first g c =
+pub returns-in_ok-first-in-Out : goal.returns-in_ok-first-in-Out
+returns-in_ok-first-in-Out g c =
     let e = c.args.event in
     let r = vec_items c.args.self.now.fired in
     let fresh = tested (fired_in e.0) c.has_fired.ensures c.deref.ensures.value c.if-has_fired.false in
@@ -75,8 +74,8 @@ returns-in_ok-first g c =
           let h = event_at st.chart e.0 in
           let s : State = record { fired = r; waiting = w; play = play } in
           let side = sym (ap (λ (q : Placed). q.line.side) is) ∙ c.in-Out.is in
-          let first = c.in_ok-first.ensures st.chart copy (instance_at st.chart e c.args.place is) in
-          above_missing st s e (not_in e r fresh) h c.in_ok-first.first side (subst (λ q. FirstLacking st.chart q e c.in_ok-first.first) c.deref-in-Out.ensures.value first);
+          let first = c.in_ok-first-in-Out.ensures st.chart copy (instance_at st.chart e c.args.place is) in
+          above_missing st s e (not_in e r fresh) h c.in_ok-first-in-Out.first side (subst (λ q. FirstLacking st.chart q e c.in_ok-first-in-Out.first) c.deref-in-Out.ensures.value first);
     }
 
 pub returns-then-was_sent : goal.returns-then-was_sent

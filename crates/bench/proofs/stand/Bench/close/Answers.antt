@@ -1,4 +1,4 @@
-use Rattle.std.proofs.Common.{◌≡◌, true, false, is_some, Some, None, vec_items, sym, refl, ap, ◌∙◌, subst}
+use Rattle.std.proofs.Common.{◌≡◌, is_some, Some, None, vec_items, sym, refl, ap, subst}
 use Rattle.bench.specs.Benches.{play_at, InStep, state_of}
 use Rattle.bench.specs.Plays.{with_play, Ended}
 use Rattle.bench.specs.States.{Play}

@@ -1,16 +1,13 @@
-use Rattle.std.proofs.Common.{◌≡◌, ℕ, ◌<◌, ◌≤◌, true, false, List, [], ◌∷◌, ◌++◌, length, get_or, None, Ok, Err, vec_items, vec_len, vec_capacity, Result, sym, refl, ap, ◌∙◌, subst, arith}
-use Rattle.chart.specs.Content.{Happening, Content, message_of}
+use Rattle.std.proofs.Common.{◌≡◌, ◌<◌, ◌≤◌, true, length, get_or, None, Ok, Err, vec_items, vec_len, vec_capacity, sym, refl, ◌∙◌, subst, arith}
+use Rattle.chart.specs.Content.{Happening, Content}
 use Rattle.chart.specs.declared.numbers.EventId.{EventId}
-use Rattle.delivery.specs.declared.parcel.Parcel.{Parcel}
-use Rattle.order.specs.Scenes.{event_at, tag_of}
+use Rattle.order.specs.Scenes.{event_at}
 use Rattle.bench.specs.Benches.{stage_of, state_of}
 use Rattle.bench.specs.Layouts.{placed, copied}
 use Rattle.bench.specs.Records.{once, within}
-use Rattle.bench.specs.States.{Stage, State}
 use Rattle.bench.specs.Steps.{Against, Handed}
 use Rattle.bench.specs.declared.layout.Layout.{Layout}
 use Rattle.bench.specs.declared.layout.Placed.{Placed}
-use Rattle.bench.specs.declared.refusal.Obstacle.{Obstacle}
 use Rattle.bench.proofs.Copies.{copy_length, placed_at, firing_of_lem}
 use Rattle.bench.proofs.Firings.{unstopped, accepted, refused}
 use Rattle.bench.proofs.Records.{room_left, once_push, within_push}
@@ -75,16 +72,13 @@ invariant_of-self g c =
     let r = vec_items this.fired in
     let e = c.args.event in
     let pushed = sym c.push_reserved.ensures.items in
-    let room : n ≤ vec_capacity this.fired = this.record_room in (
-      omega (arith, c.push_reserved.ensures.capacity),
-      (
-        this.play_room,
-        (
-          subst (λ q. within n q ≡ true) pushed (within_push n r e this.inside c.in-Some.ensures.0),
-          (subst (λ q. once q ≡ true) pushed (once_push r e c.in_default-against.ensures.fresh this.apart), tt),
-        ),
-      ),
-    )
+    let room : n ≤ vec_capacity this.fired = this.record_room in
+    record {
+      record_room = omega (arith, c.push_reserved.ensures.capacity);
+      play_room = this.play_room;
+      inside = subst (λ q. within n q ≡ true) pushed (within_push n r e this.inside c.in-Some.ensures.0);
+      apart = subst (λ q. once q ≡ true) pushed (once_push r e c.in_default-against.ensures.fresh this.apart);
+    }
 
 pub returns-in-Ok : goal.returns-in-Ok
 returns-in-Ok g c =

@@ -8,7 +8,7 @@ pub returns : goal.returns
 returns g c =
     let chart = c.args.chart.now in
     let emptied = c.empty.ensures in
-    let none = c.in-Ok-with_capacity.ensures.made.0 in
+    let none = c.in-Ok-with_capacity.ensures.items in
     record {
       rule = emptied.rule;
       room = emptied.room;
