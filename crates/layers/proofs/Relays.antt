@@ -14,7 +14,8 @@ use Rattle.delivery.specs.Waiting.{message_limit, ahead_of, first_holder}
 use Rattle.layers.specs.Layers.{deeper, put_deeper, take_told, layer_below}
 use Rattle.layers.specs.Shown.{given_tag, lifted, take_lifted, as_given, Agree}
 use Rattle.layers.proofs.Bounds.{named_deeper}
-use Rattle.layers.specs.Tags.{length_as_given, waits_as_given, parcel_as_given, without_as_given, as_given_push, agree_without, agree_push, agree_of, holder_as_given, as_given_noted, agree_noted}
+use Rattle.layers.specs.Tags.{length_as_given, waits_as_given}
+use Rattle.layers.proofs.Tags.{parcel_as_given, without_as_given, as_given_push, agree_without, agree_push, agree_of, holder_as_given, as_given_noted, agree_noted}
 
 -- the layers named, where w waits below
 module _ (below : ℕ → Ground → Option ℕ) (given : List Tag) (w : List Parcel) where

@@ -34,7 +34,7 @@ take_told (Err e) = Err (take_deeper e)
 
 -- the layer that the delivery below names, counted from one layer higher
 abbrev pub layer_below : (Ground → Option ℕ) → Ground → Option ℕ
-layer_below below ground = option_map deeper (below ground)
+layer_below below why = option_map deeper (below why)
 
 -- a bound that is full by its own number names itself; every other refusal comes from below
 abbrev pub bound_layer : ℕ → ℕ → (Ground → Option ℕ) → Ground → Option ℕ

@@ -5,7 +5,6 @@ use delivery::meaning::Delivery;
 use delivery::refusal::{PutRefusal, TakeRefusal};
 use std::test::*;
 use wirings::bottoms::{new_bag, new_mailbox, new_meeting, new_paired_line};
-use wirings::hold_rule::HoldRule;
 
 #[test]
 fn bag_gives_parcels_in_any_order(rt: HostRuntime) -> Result<(), Fail> {

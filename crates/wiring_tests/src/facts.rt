@@ -13,7 +13,6 @@ use delivery::refusal::{Accepted, PutRefusal, TakeRefusal};
 use layers::bound::Bound;
 use layers::relay::Relay;
 use wirings::bottoms::{Bag, Mailbox, Meeting, PairedLine};
-use wirings::hold_rule::HoldRule;
 
 fn bag_holds(bag: &Bag, first: Tag, second: Tag) -> bool
     ensures { result ≡ false }
