@@ -13,7 +13,7 @@ returns-then-buffer-lt-LINE_ROOM g c =
     let d = c.args.delivery.now in
     let rule = g.D.Delivery.rule d in
     let room = g.D.Delivery.room d in
-    let told = line_short (races_of (content chart) rule room) (content chart) c.args.line c.args.buffer.now c.if-buffer-lt-LINE_ROOM.true in
+    let told = line_short (races_of (content chart) rule room) (content chart) c.args.line c.args.buffer.now (omega arith) in
     record { answer = told.0; bytes = told.1; exact = exact_pairs chart rule room (g.met.D.Delivery.transitive d) (g.met.D.Delivery.some d) }
 
 pub returns-in-Some : goal.returns-in-Some
