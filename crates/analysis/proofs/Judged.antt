@@ -9,7 +9,6 @@ use Rattle.matrix.specs.declared.sets.EventSet.{EventSet}
 use Rattle.matrix.specs.declared.matrices.OrderMatrix.{OrderMatrix}
 use Rattle.order.specs.Order.{Scene}
 use Rattle.order.specs.Pass.{rows, chosen, between, crowd_size, turns}
-use Rattle.analysis.specs.Filling.{holds}
 use Rattle.analysis.specs.Judging.{Filled, is_held, Foreseen, crowd_in, turns_in}
 use Rattle.analysis.specs.declared.judging.Prospect.{Prospect}
 

@@ -7,7 +7,7 @@ use Rattle.chart.specs.Charted.{content}
 use Rattle.chart.specs.Content.{Content}
 use Rattle.chart.specs.declared.charting.Chart.{Chart}
 use Rattle.order.proofs.Verdict.{chart_laid}
-use Rattle.analysis.specs.Listing.{race_line, count_line, listing, line_of, line_answer, line_written}
+use Rattle.analysis.specs.Listing.{race_line, count_line, line_of, line_answer, line_written}
 use Rattle.analysis.specs.Races.{InChart}
 use Rattle.analysis.specs.Records.{record_of, records, Small}
 use Rattle.analysis.specs.Reporting.{counted, reported}

@@ -1,8 +1,8 @@
 -- From the tests of two events to the verdict on them.
-use Rattle.std.proofs.Common.{◌≡◌, ℕ, ◌<◌, ◌≤◌, Bool, true, false, ◌&&◌, T, eqb, ltb, length, sym, ap, ◌∙◌, subst, arith}
+use Rattle.std.proofs.Common.{◌≡◌, ℕ, ◌<◌, ◌≤◌, Bool, true, false, ◌&&◌, T, eqb, ltb, length, sym, ap, ◌∙◌, arith}
 use Rattle.std.proofs.lemmas.Bool.{both_ways, and_parts, and_from, lt-ltb, ltb-true, eq-eqb, eqb-true}
 use Rattle.chart.specs.Charted.{content}
-use Rattle.chart.specs.Content.{sent, message_of, Content}
+use Rattle.chart.specs.Content.{sent, Content}
 use Rattle.chart.specs.declared.charting.Chart.{Chart}
 use Rattle.delivery.specs.declared.parcel.Tag.{Tag}
 use Rattle.matrix.specs.Places.{place_of}
@@ -10,7 +10,7 @@ use Rattle.matrix.specs.Models.{has, row_of}
 use Rattle.matrix.specs.declared.matrices.OrderMatrix.{OrderMatrix}
 use Rattle.matrix.specs.declared.sets.EventSet.{EventSet}
 use Rattle.order.specs.Order.{Scene}
-use Rattle.order.specs.Pass.{rows, enforces, turns}
+use Rattle.order.specs.Pass.{rows, turns}
 use Rattle.order.specs.Report.{is_reported}
 use Rattle.order.specs.Reversible.{Reversible}
 use Rattle.order.specs.Scenes.{scene_of, instance_of, event_at, PairAt}

@@ -1,27 +1,22 @@
 -- What a step of the reading that succeeded took from the text, and what it added.
-use Rattle.std.proofs.Common.{◌≡◌, ℕ, zero, suc, ◌+◌, ◌<◌, ◌≤◌, Bool, true, false, cond, ◌&&◌, eqb, ltb, leb, ◌⊎◌, List, [], ◌∷◌, ◌++◌, length, Some, None, Ok, Err, codes, Option, Result, sym, refl, ap, ◌∙◌, subst, inl, inr, arith}
+use Rattle.std.proofs.Common.{◌≡◌, ℕ, ◌<◌, Bool, true, false, cond, eqb, ltb, ◌⊎◌, List, [], ◌∷◌, length, Some, Ok, Err, codes, Result, sym, refl, ap, ◌∙◌, subst, inl, inr, arith}
 use Rattle.std.specs.Str.{bytes_eq}
 use Rattle.std.proofs.lemmas.Slice.Eq.{bytes_eq-Decides}
-use Rattle.std.proofs.lemmas.Bool.{cases_Bool, cond-true, cond-false, and_from, le-leb, ltb-false, leb-false, eqb-true, ltb-true}
+use Rattle.std.proofs.lemmas.Bool.{cases_Bool, cond-true, cond-false, and_from, le-leb, ltb-false, eqb-true}
 use Rattle.chart.specs.Words.{Text, name_like, is_name}
 use Rattle.chart.specs.Names.{judged}
-use Rattle.chart.specs.Lookup.{seek, among}
+use Rattle.chart.specs.Lookup.{seek}
 use Rattle.chart.specs.Content.{Content, message_names, sender_of, receiver_of}
-use Rattle.chart.specs.Drafting.{message_called, instance_called, times_received, listed, with_instance, with_message, with_receipt}
+use Rattle.chart.specs.Drafting.{message_called, times_received, with_message, with_receipt}
 use Rattle.chart.specs.declared.names.NameRefusal.{NameRefusal}
 use Rattle.chart.specs.declared.names.NameRefusal.TheVariants.{NotAName, TooLong}
-use Rattle.chart.specs.declared.drafting.InstanceRefusal.{InstanceRefusal}
-use Rattle.chart.specs.declared.drafting.InstanceRefusal.TheVariants as instance
 use Rattle.reader.specs.Lexemes.{Lexeme, word, semicolon, comma, colon, finish, stray, lexeme, left}
-use Rattle.reader.specs.Meaning.{Sign, written, mark, semicolon_sign, comma_sign, colon_sign}
-use Rattle.reader.specs.Reading.{Outcome, then, on_word, on_semicolon, on_colon, on_end, on_comma_or_semicolon, name_by, name_at, known_by, instance_at, listed_by, further_at, new_message_at, receiver_at, sent_message_at, sender_is, keyword_from, semicolon_from, out_line, in_line, event_line, Step, more, ended, instance_step, line_step, step_of}
-use Rattle.reader.specs.declared.refusals.Refusal.{Refusal}
+use Rattle.reader.specs.Meaning.{Sign, written, semicolon_sign, comma_sign, colon_sign}
+use Rattle.reader.specs.Reading.{Outcome, on_word, on_semicolon, on_colon, on_end, on_comma_or_semicolon, name_by, name_at, instance_at, new_message_at, receiver_at, sent_message_at, sender_is, keyword_from, semicolon_from, out_line, in_line, event_line}
 use Rattle.reader.specs.declared.refusals.Refusal.TheVariants.{Unexpected, NotAsSent}
-use Rattle.reader.specs.declared.steps.Part.{Part}
-use Rattle.reader.specs.declared.steps.Part.TheVariants.{Instances, Lines}
-use Rattle.reader.proofs.Inversion.{refused, same_ok, then_ok, fails, passes, instance_ok, receiver_ok, new_message_ok, sent_message_all}
+use Rattle.reader.proofs.Inversion.{refused, same_ok, then_ok, passes, instance_ok, receiver_ok, new_message_ok, sent_message_all}
 use Rattle.reader.proofs.Lexing.{Shows}
-use Rattle.reader.proofs.Taking.{Takes, takes_then, all_shorter}
+use Rattle.reader.proofs.Taking.{Takes, takes_then}
 
 module _ {Y : Type 0} (y : Y) where
   pub word_ok : (l : Lexeme) (f : Text → ℕ → Outcome Y) → on_word l f ≡ Ok y → (t : Text) × (p : ℕ) × Shows (written t) l × (f t p ≡ Ok y)

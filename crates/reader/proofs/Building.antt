@@ -1,21 +1,21 @@
 -- A well-formed chart is drawn step by step.
-use Rattle.std.proofs.Common.{◌≡◌, ℕ, zero, suc, ◌+◌, ◌<◌, ◌≤◌, Bool, true, false, ◌&&◌, eqb, ltb, List, [], ◌∷◌, ◌++◌, map, length, get_or, take, Some, count_by, sym, refl, ap, ◌∙◌, subst, add-one, arith}
+use Rattle.std.proofs.Common.{◌≡◌, ℕ, suc, ◌+◌, ◌<◌, ◌≤◌, true, false, eqb, ltb, List, [], ◌∷◌, ◌++◌, map, length, get_or, take, Some, count_by, sym, refl, ap, ◌∙◌, subst, add-one, arith}
 use Rattle.std.specs.List.{flat_map, AllByRecursion as All}
 use Rattle.std.proofs.ByRecursion.{All-get_or}
-use Rattle.std.proofs.lemmas.List.{append_assoc, append-nil, length-append, length_push, length-map, length-take-le, get_or_at, get_or-take, get_or-map, take_at, take_all, take_more, take-take, take-map}
+use Rattle.std.proofs.lemmas.List.{append_assoc, append-nil, length-append, length-map, length-take-le, get_or_at, get_or-take, get_or-map, take_at, take_all, take_more, take-take, take-map}
 use Rattle.std.proofs.lemmas.List.Sums.{sum_by-append}
 use Rattle.std.proofs.lemmas.Bool.{and_parts, eq-eqb, ltb-true, le-ltb, eqb-false, not-true}
 use Rattle.chart.specs.Words.{Text, is_name}
 use Rattle.chart.specs.Lookup.{seek, among}
-use Rattle.chart.specs.Content.{Content, Happening, sent, received, Post, nobody, message_names, sender_of, receiver_of, is_sending, is_received, numbered, joins, NamesApart, WellFormed}
-use Rattle.chart.specs.Drafting.{with_instance, with_message, with_receipt, message_called, times_received}
+use Rattle.chart.specs.Content.{Content, Happening, sent, received, Post, nobody, message_names, sender_of, receiver_of, is_sending, is_received, numbered, NamesApart, WellFormed}
+use Rattle.chart.specs.Drafting.{message_called, times_received}
 use Rattle.chart.proofs.Additions.{same_content}
 use Rattle.chart.proofs.Counting.{count_yes, count_no}
 use Rattle.chart.proofs.Numbering.{at_send, at_receipt}
 use Rattle.chart.proofs.Repeating.{seek_apart}
-use Rattle.reader.specs.Meaning.{Sign, further_names, instance_name, message_name, line_of}
+use Rattle.reader.specs.Meaning.{further_names, instance_name, message_name, line_of}
 use Rattle.reader.specs.declared.steps.Part.TheVariants.{Instances, Lines}
-use Rattle.reader.proofs.Accepting.{Adds, sends, receives}
+use Rattle.reader.proofs.Accepting.{sends, receives}
 use Rattle.reader.proofs.Moving.{Moves, lists, draws, Many, done, again}
 
 -- a title and these instances, and no line yet

@@ -1,5 +1,5 @@
 -- The text of a well-formed chart is accepted, and gives that chart.
-use Rattle.std.proofs.Common.{◌≡◌, ℕ, suc, ◌+◌, ◌<◌, ◌≤◌, Bool, true, false, cond, ltb, List, [], ◌∷◌, ◌++◌, length, Ok, Err, codes, sym, refl, ap, ◌∙◌, subst, arith}
+use Rattle.std.proofs.Common.{◌≡◌, ℕ, suc, ◌≤◌, true, ltb, List, [], ◌∷◌, ◌++◌, length, Ok, Err, codes, sym, refl, ap, ◌∙◌, subst, arith}
 use Rattle.std.specs.List.{flat_map, AllByRecursion as All}
 use Rattle.std.proofs.lemmas.List.{append_assoc}
 use Rattle.std.proofs.lemmas.Bool.{cond-true, cond-false, le-ltb, lt-ltb}
@@ -7,17 +7,17 @@ use Rattle.chart.specs.Words.{Text, is_name}
 use Rattle.chart.specs.Content.{Content, NamesApart, WellFormed}
 use Rattle.chart.specs.Drafting.{begun, all_received, times_received}
 use Rattle.chart.proofs.Judging.{all_below_lem}
-use Rattle.reader.specs.Lexemes.{lexeme, left, finish}
-use Rattle.reader.specs.Meaning.{Sign, written, mark, semicolon_sign, further_names, names, line_of, tokens, Spells, TextOf}
-use Rattle.reader.specs.Reading.{Outcome, then, on_word, on_end, name_at, keyword_from, semicolon_from, part_from, ending, body_from, list_from, chart_from, reading}
+use Rattle.reader.specs.Lexemes.{lexeme, left}
+use Rattle.reader.specs.Meaning.{Sign, written, semicolon_sign, further_names, line_of, Spells, TextOf}
+use Rattle.reader.specs.Reading.{then, on_end, name_at, semicolon_from, ending, body_from, list_from, chart_from, reading}
 use Rattle.reader.specs.declared.refusals.Refusal.TheVariants.{TextTooLong, NotReceived}
-use Rattle.reader.specs.declared.steps.Part.TheVariants.{Instances, Lines}
+use Rattle.reader.specs.declared.steps.Part.TheVariants.{Lines}
 use Rattle.reader.proofs.Lexing.{spells_read, end_read}
-use Rattle.reader.proofs.Taking.{Takes, spells_takes}
+use Rattle.reader.proofs.Taking.{spells_takes}
 use Rattle.reader.proofs.Doing.{then_does, word_does, keyword_does, semicolon_taken, name_does, steps_do}
-use Rattle.reader.proofs.Building.{only, list_built, lines_built}
+use Rattle.reader.proofs.Building.{list_built, lines_built}
 use Rattle.reader.proofs.Moving.{Many}
-use Rattle.reader.proofs.Sounding.{frame, reading_sound}
+use Rattle.reader.proofs.Sounding.{frame}
 
 ending_does : (n : ℕ) (bs : Text) → Spells (semicolon_sign ∷ []) bs → ending n bs ≡ Ok tt
 ending_does n bs h =

@@ -1,24 +1,22 @@
 -- A step of the reading succeeds where its tokens stand and it fits.
-use Rattle.std.proofs.Common.{◌≡◌, ℕ, zero, suc, ◌+◌, ◌<◌, ◌≤◌, Bool, true, false, cond, not, ◌&&◌, ◌||◌, eqb, ltb, leb, List, [], ◌∷◌, ◌++◌, length, Some, None, Ok, Err, codes, Option, sym, refl, ap, ◌∙◌, subst, arith}
+use Rattle.std.proofs.Common.{◌≡◌, ℕ, zero, suc, ◌<◌, true, false, cond, not, ◌&&◌, eqb, ltb, leb, List, [], ◌∷◌, ◌++◌, length, Some, Ok, Err, codes, refl, ap, ◌∙◌, subst, arith}
 use Rattle.std.specs.Str.{bytes_eq}
 use Rattle.std.proofs.lemmas.List.{append_assoc}
 use Rattle.std.proofs.lemmas.Bool.{cond-true, cond-false, and_parts, or_parts, not-true, leb-true, lt-leb, le-ltb, eq-eqb, ne_eqb}
 use Rattle.chart.specs.Words.{Text, name_like, is_name, all_of, is_word_byte, lettered, reserved}
-use Rattle.chart.specs.Names.{judged}
 use Rattle.chart.specs.Lookup.{seek, among}
 use Rattle.chart.specs.Content.{Content, message_names, sender_of, receiver_of}
 use Rattle.chart.specs.Drafting.{message_called, times_received, listed, with_instance, with_message, with_receipt}
 use Rattle.chart.specs.declared.drafting.InstanceRefusal.TheVariants as instance
 use Rattle.chart.proofs.Seeking.{is_same}
 use Rattle.reader.specs.Lexemes.{Lexeme, word, semicolon, comma, colon, finish, stray, place_of, lexeme, left}
-use Rattle.reader.specs.Meaning.{Sign, written, mark, semicolon_sign, comma_sign, colon_sign}
-use Rattle.reader.specs.Reading.{Outcome, then, on_word, on_semicolon, on_colon, on_end, on_comma_or_semicolon, name_by, name_at, known_by, instance_at, listed_by, further_at, new_message_at, receiver_at, sent_by, sent_message_at, sender_is, keyword_from, semicolon_from, out_line, in_line, event_line, Step, more, ended, instance_step, line_step, step_of, go_on, steps_from}
-use Rattle.reader.specs.declared.refusals.Refusal.{Refusal}
+use Rattle.reader.specs.Meaning.{Sign, written, semicolon_sign, comma_sign, colon_sign}
+use Rattle.reader.specs.Reading.{Outcome, then, on_word, on_semicolon, on_colon, on_comma_or_semicolon, name_by, name_at, known_by, instance_at, listed_by, further_at, new_message_at, receiver_at, sent_by, sent_message_at, sender_is, keyword_from, semicolon_from, out_line, in_line, event_line, more, ended, step_of, go_on, steps_from}
 use Rattle.reader.specs.declared.refusals.Refusal.TheVariants.{Unexpected, NamedTwice, TooManyMessages, SentToItself, NotAsSent}
 use Rattle.reader.specs.declared.steps.Part.{Part}
 use Rattle.reader.specs.declared.steps.Part.TheVariants.{Instances, Lines}
 use Rattle.reader.proofs.Lexing.{Shows}
-use Rattle.reader.proofs.Taking.{Takes, takes_then, all_shorter}
+use Rattle.reader.proofs.Taking.{Takes, all_shorter}
 use Rattle.reader.proofs.Accepting.{Adds, sends, receives}
 use Rattle.reader.proofs.Moving.{Moves, lists, draws, Many, done, again, last_sign, some_tokens}
 

@@ -1,5 +1,5 @@
 -- A line that was read fits the draft.
-use Rattle.std.proofs.Common.{◌≡◌, ℕ, ◌<◌, length, Ok, Err, Result, sym, ap, ◌∙◌, arith}
+use Rattle.std.proofs.Common.{◌≡◌, ℕ, ◌<◌, length, Ok, Err, Result, sym, ◌∙◌, arith}
 use Rattle.chart.specs.Words.{Text}
 use Rattle.chart.specs.Content.{Content}
 use Rattle.chart.specs.Drafting.{dispatched, delivered, with_message, with_receipt}

@@ -1,11 +1,11 @@
 -- The reading goes on past a heading that was read.
-use Rattle.std.proofs.Common.{◌≡◌, ℕ, ◌≤◌, ltb, List, length, Ok, Err, codes, sym, ap, ◌∙◌}
+use Rattle.std.proofs.Common.{◌≡◌, ℕ, ◌≤◌, ltb, length, Ok, Err, codes, sym, ap, ◌∙◌}
 use Rattle.std.proofs.lemmas.Bool.{cond-false, le-ltb}
 use Rattle.chart.specs.Content.{Content}
 use Rattle.chart.specs.Drafting.{begun}
 use Rattle.chart.specs.Words.{Text}
-use Rattle.reader.specs.Lexemes.{Lexeme, word, lexeme, left}
-use Rattle.reader.specs.Reading.{Outcome, then, on_word, name_at, keyword_from, semicolon_from, body_from, list_from, chart_from, reading}
+use Rattle.reader.specs.Lexemes.{word, lexeme, left}
+use Rattle.reader.specs.Reading.{then, on_word, name_at, keyword_from, semicolon_from, body_from, list_from, chart_from, reading}
 use Rattle.reader.specs.declared.refusals.Refusal.TheVariants.{TextTooLong}
 
 pub list_goes : (n : ℕ) (title bs b₁ q t first : Text) (p : ℕ) (c : Content) → Ok b₁ ≡ keyword_from (codes "inst") n bs → word t p ≡ lexeme n b₁ → q ≡ left b₁ → Ok first ≡ name_at t p → c ≡ begun title first → list_from n title bs ≡ body_from n c q

@@ -1,14 +1,13 @@
 -- What a step of the reading that succeeded says.
-use Rattle.std.proofs.Common.{◌≡◌, ℕ, ◌<◌, ◌≤◌, Bool, true, false, cond, eqb, ltb, leb, List, [], ◌∷◌, length, Some, None, Ok, Err, Option, Result, sym, refl, ap, ◌∙◌, arith}
-use Rattle.std.proofs.lemmas.Bool.{cond-true, cond-false, leb-false, eqb-true, eqb-false}
+use Rattle.std.proofs.Common.{◌≡◌, ℕ, ◌<◌, Bool, true, false, cond, eqb, ltb, leb, length, Some, None, Ok, Err, Option, sym, refl, ap, ◌∙◌, arith}
+use Rattle.std.proofs.lemmas.Bool.{leb-false, eqb-true, eqb-false}
 use Rattle.std.proofs.lemmas.List.{length-map}
 use Rattle.chart.specs.Words.{Text}
-use Rattle.chart.specs.Names.{judged}
 use Rattle.chart.specs.Lookup.{seek}
-use Rattle.chart.specs.Content.{Content, Post, message_names, sender_of, receiver_of}
-use Rattle.chart.specs.Drafting.{message_called, times_received, dispatched, delivered, with_message, with_receipt}
+use Rattle.chart.specs.Content.{Content, Post, message_names, receiver_of}
+use Rattle.chart.specs.Drafting.{message_called, times_received}
 use Rattle.chart.proofs.Seeking.{seek_inside}
-use Rattle.reader.specs.Reading.{Outcome, then, name_at, known_by, instance_at, new_message_at, receiver_at, sent_by, sent_message_at, sender_is}
+use Rattle.reader.specs.Reading.{Outcome, then, name_at, known_by, instance_at, new_message_at, receiver_at, sent_by, sent_message_at}
 use Rattle.reader.specs.declared.refusals.Refusal.{Refusal}
 
 pub refused : {X : Type 0} (e : Refusal) (x : X) (P : Type 0) → ◌≡◌ {A = Outcome X} (Err e) (Ok x) → P

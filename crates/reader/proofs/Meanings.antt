@@ -1,5 +1,5 @@
 -- What an answer of the reading means.
-use Rattle.std.proofs.Common.{◌≡◌, ℕ, Ok, Err, Result, sym, ◌∙◌, arith}
+use Rattle.std.proofs.Common.{Ok, Err, Result, sym, ◌∙◌}
 use Rattle.chart.specs.Content.{Content}
 use Rattle.chart.specs.Words.{Text}
 use Rattle.reader.specs.Answers.{ChartRead, PlaceRead, PlaceMeans, ReadsTexts}

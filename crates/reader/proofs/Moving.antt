@@ -1,5 +1,5 @@
 -- What the steps of a part that succeeded took from the text, and what they added.
-use Rattle.std.proofs.Common.{◌≡◌, ℕ, zero, suc, ◌+◌, ◌<◌, ◌≤◌, Bool, true, false, cond, leb, ◌⊎◌, List, [], ◌∷◌, ◌++◌, length, Some, Ok, Err, codes, Result, sym, refl, ap, ◌∙◌, subst, inl, inr, arith}
+use Rattle.std.proofs.Common.{◌≡◌, ℕ, zero, suc, ◌<◌, true, false, cond, leb, List, [], ◌∷◌, ◌++◌, length, Some, Ok, Err, codes, sym, refl, ap, ◌∙◌, subst, inl, inr, arith}
 use Rattle.std.specs.Str.{bytes_eq}
 use Rattle.std.proofs.lemmas.List.{append_assoc}
 use Rattle.std.proofs.lemmas.Bool.{cases_Bool, cond-true, cond-false, leb-false}
@@ -7,12 +7,10 @@ use Rattle.chart.specs.Words.{Text, is_name}
 use Rattle.chart.specs.Lookup.{seek, among}
 use Rattle.chart.specs.Content.{Content}
 use Rattle.chart.specs.Drafting.{listed, with_instance}
-use Rattle.chart.specs.declared.drafting.InstanceRefusal.{InstanceRefusal}
 use Rattle.chart.specs.declared.drafting.InstanceRefusal.TheVariants as instance
-use Rattle.reader.specs.Lexemes.{Lexeme, lexeme, left, place_of}
-use Rattle.reader.specs.Meaning.{Sign, written, mark, semicolon_sign, comma_sign}
-use Rattle.reader.specs.Reading.{Outcome, then, on_word, name_at, instance_at, listed_by, further_at, event_line, Step, more, ended, instance_step, line_step, step_of, go_on, steps_from}
-use Rattle.reader.specs.declared.refusals.Refusal.{Refusal}
+use Rattle.reader.specs.Lexemes.{lexeme, left}
+use Rattle.reader.specs.Meaning.{Sign, written, semicolon_sign, comma_sign}
+use Rattle.reader.specs.Reading.{name_at, instance_at, listed_by, further_at, event_line, Step, more, ended, instance_step, line_step, step_of, go_on, steps_from}
 use Rattle.reader.specs.declared.steps.Part.{Part}
 use Rattle.reader.specs.declared.steps.Part.TheVariants.{Instances, Lines}
 use Rattle.reader.proofs.Inversion.{refused, same_ok, then_ok}

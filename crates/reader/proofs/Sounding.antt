@@ -1,5 +1,5 @@
 -- What is accepted is the text of a well-formed chart.
-use Rattle.std.proofs.Common.{◌≡◌, ℕ, suc, ◌<◌, ◌≤◌, Bool, true, false, cond, ltb, List, [], ◌∷◌, ◌++◌, length, Ok, Err, codes, sym, refl, ap, ◌∙◌, subst, arith}
+use Rattle.std.proofs.Common.{◌≡◌, ℕ, suc, true, ltb, List, [], ◌∷◌, ◌++◌, length, Ok, codes, sym, refl, ap, ◌∙◌, subst}
 use Rattle.std.specs.List.{flat_map}
 use Rattle.std.proofs.lemmas.List.{append_assoc}
 use Rattle.std.proofs.lemmas.Bool.{ltb-false}
@@ -7,8 +7,8 @@ use Rattle.chart.specs.Words.{Text, is_name}
 use Rattle.chart.specs.Content.{Content}
 use Rattle.chart.specs.Drafting.{begun, all_received}
 use Rattle.reader.specs.Lexemes.{lexeme, left}
-use Rattle.reader.specs.Meaning.{Sign, written, mark, semicolon_sign, further_names, names, line_of, tokens, Spells, TextOf}
-use Rattle.reader.specs.Reading.{Outcome, then, on_word, name_at, keyword_from, semicolon_from, part_from, ending, body_from, list_from, chart_from, reading}
+use Rattle.reader.specs.Meaning.{Sign, written, semicolon_sign, further_names, names, line_of, Spells, TextOf}
+use Rattle.reader.specs.Reading.{name_at, keyword_from, semicolon_from, part_from, ending, body_from, list_from, chart_from, reading}
 use Rattle.reader.specs.declared.steps.Part.TheVariants.{Instances, Lines}
 use Rattle.reader.proofs.Inversion.{then_ok, fails, passes, same_ok}
 use Rattle.reader.proofs.Lexing.{Shows, read_end}

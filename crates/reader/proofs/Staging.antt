@@ -1,17 +1,17 @@
 -- A draft that was read is well formed as far as it goes, and its tokens are those that were read.
-use Rattle.std.proofs.Common.{◌≡◌, ℕ, zero, suc, ◌+◌, ◌<◌, ◌≤◌, Bool, true, false, not, ◌&&◌, eqb, ltb, List, [], ◌∷◌, ◌++◌, map, length, get_or, take, Some, codes, count_by, sym, refl, ap, ◌∙◌, subst, arith}
+use Rattle.std.proofs.Common.{◌≡◌, ℕ, zero, suc, ◌<◌, ◌≤◌, true, false, ltb, List, [], ◌∷◌, ◌++◌, length, get_or, take, Some, codes, sym, refl, ap, ◌∙◌, subst, arith}
 use Rattle.std.specs.List.{flat_map, AllByRecursion as All}
 use Rattle.std.proofs.ByRecursion.{All-push}
-use Rattle.std.proofs.lemmas.List.{append_assoc, append-nil, length_push, length-map, get_or_append_left, get_or-append_right, get_or_push, get_or-map, map_push}
-use Rattle.std.proofs.lemmas.Bool.{ltb-false, and_parts, ltb-true}
+use Rattle.std.proofs.lemmas.List.{append_assoc, append-nil, length_push, length-map, get_or_append_left, get_or_push, get_or-map, map_push}
+use Rattle.std.proofs.lemmas.Bool.{ltb-false, ltb-true}
 use Rattle.chart.specs.Words.{Text, is_name}
 use Rattle.chart.specs.Lookup.{seek, among}
-use Rattle.chart.specs.Content.{Content, Happening, sent, received, Post, nobody, message_names, sender_of, receiver_of, WellFormed, is_received}
-use Rattle.chart.specs.Drafting.{begun, with_instance, with_message, with_receipt, message_called, times_received, all_received}
+use Rattle.chart.specs.Content.{Content, Happening, sent, received, Post, nobody, message_names, sender_of, receiver_of, WellFormed}
+use Rattle.chart.specs.Drafting.{begun, with_message, times_received, all_received}
 use Rattle.chart.proofs.Additions.{Growing, instance_grows, message_grows, receipt_grows}
 use Rattle.chart.proofs.Judging.{joined as joined-ends, each_below}
 use Rattle.chart.proofs.Seeking.{seek_inside, seek_is}
-use Rattle.reader.specs.Meaning.{Sign, written, mark, semicolon_sign, comma_sign, colon_sign, further_names, names, instance_name, message_name, line_of}
+use Rattle.reader.specs.Meaning.{Sign, written, semicolon_sign, comma_sign, colon_sign, further_names, line_of}
 use Rattle.reader.specs.declared.steps.Part.{Part}
 use Rattle.reader.specs.declared.steps.Part.TheVariants.{Instances, Lines}
 use Rattle.reader.proofs.Accepting.{Adds, sends, receives}

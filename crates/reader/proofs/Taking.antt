@@ -1,8 +1,8 @@
 -- Tokens that were read one after the other.
-use Rattle.std.proofs.Common.{◌≡◌, ℕ, suc, ◌+◌, ◌<◌, ◌≤◌, Bool, true, false, cond, List, [], ◌∷◌, ◌++◌, length, drop, sym, refl, ap, ◌∙◌, subst, arith, length-drop}
+use Rattle.std.proofs.Common.{◌≡◌, ℕ, suc, ◌+◌, ◌<◌, ◌≤◌, Bool, true, false, cond, List, [], ◌∷◌, ◌++◌, length, drop, sym, refl, ap, subst, arith, length-drop}
 use Rattle.std.specs.List.{prefix_len}
 use Rattle.chart.specs.Words.{Text, is_word_byte}
-use Rattle.reader.specs.Lexemes.{Lexeme, word, semicolon, comma, colon, finish, stray, is_blank, past, token_at, beyond, lexeme, left}
+use Rattle.reader.specs.Lexemes.{is_blank, past, token_at, beyond, lexeme, left}
 use Rattle.reader.specs.Meaning.{Sign, written, mark, Spells}
 use Rattle.reader.proofs.Lexing.{Shows, read_spells, spells_read}
 

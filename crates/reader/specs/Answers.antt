@@ -13,7 +13,6 @@ use Rattle.reader.specs.Reading.{Outcome, Step, more, ended, reading}
 use Rattle.reader.specs.Meaning.{TextOf}
 use Rattle.reader.specs.declared.steps.Step.{Step as Step'}
 use Rattle.reader.specs.declared.steps.Step.TheVariants.{More, Ended}
-use Rattle.reader.specs.declared.refusals.Refusal.{Refusal}
 use Rattle.reader.specs.declared.reading.ReadError.{ReadError}
 use Rattle.reader.specs.declared.reading.ReadError.TheVariants.{Refused, OutOfMemory}
 

@@ -1,5 +1,5 @@
 -- The next token of a text, by its kind, its bytes and its place.
-use Rattle.std.specs.Prelude.{ℕ, ◌-◌, Bool, cond, ◌||◌, List, [], ◌∷◌, length, take, drop, ◌==◌}
+use Rattle.std.specs.Prelude.{ℕ, ◌-◌, Bool, cond, ◌||◌, [], ◌∷◌, length, take, drop, ◌==◌}
 use Rattle.std.specs.List.{prefix_len}
 use Rattle.chart.specs.Words.{Text, is_word_byte}
 use Rattle.reader.specs.declared.tokens.Token.{Token}

@@ -2,7 +2,7 @@
 use Rattle.std.specs.Prelude.{◌≡◌, ℕ, ◌≤◌, Bool, true, false, ◌||◌, List, [], ◌∷◌, ◌++◌, length, get_or, codes, ◌==◌, slice_index_or}
 use Rattle.std.specs.List.{flat_map}
 use Rattle.chart.specs.Words.{Text, is_word_byte, all_of}
-use Rattle.chart.specs.Content.{Content, Happening, sent, received, Post, nobody, sender_of, receiver_of, WellFormed}
+use Rattle.chart.specs.Content.{Content, Happening, sent, received, nobody, sender_of, receiver_of, WellFormed}
 use Rattle.reader.specs.Lexemes.{is_blank}
 
 -- a token: a word, or a mark

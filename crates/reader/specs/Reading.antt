@@ -1,6 +1,6 @@
 -- Reading a text from left to right: each token is judged before the next is looked at, so the first that does not
 -- fit gives the refusal and its place.
-use Rattle.std.specs.Prelude.{ℕ, zero, suc, ◌+◌, Bool, cond, List, [], ◌∷◌, length, Some, None, Ok, Err, codes, Option, Result, ◌==◌, nat_le, nat_lt}
+use Rattle.std.specs.Prelude.{ℕ, zero, suc, cond, length, Some, None, Ok, Err, codes, Option, Result, ◌==◌, nat_le, nat_lt}
 use Rattle.std.specs.Str.{bytes_eq}
 use Rattle.chart.specs.Words.{Text}
 use Rattle.chart.specs.Names.{judged}

@@ -1,5 +1,5 @@
 -- The row of an event, from what was read of the chart.
-use Rattle.std.proofs.Common.{◌≡◌, ℕ, ◌<◌, true, false, ltb, List, [], map, length, get_or, is_some, Some, None, vec_items, unwrap_or, sym, refl, ap, ◌∙◌, ⊎_elim, arith}
+use Rattle.std.proofs.Common.{◌≡◌, ℕ, ◌<◌, true, false, ltb, List, [], map, length, get_or, is_some, Some, vec_items, unwrap_or, sym, refl, ap, ◌∙◌, ⊎_elim, arith}
 use Rattle.std.proofs.lemmas.List.{length-map}
 use Rattle.std.proofs.lemmas.Bool.{cases_Bool, cond-true, cond-false, true≢false, and_parts, ltb-true}
 use Rattle.chart.specs.Words.{Text}
@@ -13,7 +13,6 @@ use Rattle.chart.specs.declared.numbers.InstanceId.{InstanceId}
 use Rattle.chart.specs.declared.pieces.Message.{Message}
 use Rattle.chart.specs.declared.pieces.Parts.{Parts}
 use Rattle.chart.specs.declared.pieces.Side.{Side}
-use Rattle.chart.specs.declared.pieces.Side.TheVariants as side
 use Rattle.chart.proofs.Stored.{mapped_at}
 use Rattle.reader.specs.Meaning.{instance_name, message_name}
 use Rattle.rehearse.specs.Rows.{Telling, telling_of, row_of, partner_of}

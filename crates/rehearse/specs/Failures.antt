@@ -1,5 +1,5 @@
 -- What is said of a text that was not read.
-use Rattle.std.specs.Prelude.{ℕ, take}
+use Rattle.std.specs.Prelude.{take}
 use Rattle.chart.specs.Words.{Text}
 use Rattle.reader.specs.Refusals.{place}
 use Rattle.reader.specs.declared.reading.ReadError.{ReadError}

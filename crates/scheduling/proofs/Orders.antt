@@ -1,5 +1,5 @@
 -- What the stages write is the schedule.
-use Rattle.std.proofs.Common.{◌≡◌, ℕ, ◌+◌, ◌*◌, ◌<◌, ◌≤◌, Bool, true, false, cond, List, [], ◌∷◌, ◌++◌, length, drop, sym, ap, ◌∙◌, subst, ap₂, append_assoc, add-one, arith, length-append}
+use Rattle.std.proofs.Common.{◌≡◌, ℕ, ◌+◌, ◌*◌, ◌<◌, ◌≤◌, Bool, true, false, cond, List, [], ◌∷◌, ◌++◌, length, drop, Err, refl, sym, ap, ◌∙◌, subst, ap₂, append_assoc, add-one, arith, length-append}
 use Rattle.std.proofs.lemmas.Bool.{cond-true, cond-false}
 use Rattle.chart.specs.Charted.{content}
 use Rattle.chart.specs.Content.{Happening, sent, received, message_of, Content}
@@ -14,13 +14,14 @@ use Rattle.schedules.proofs.Charts.{scheduled}
 use Rattle.scheduling.specs.Firings.{firing, firings}
 use Rattle.analysis.specs.Outlooks.{Outlooks}
 use Rattle.scheduling.specs.Passes.{sends, receives, turn_of, listed}
-use Rattle.scheduling.specs.Scheduling.{order, Turns, Gives}
+use Rattle.scheduling.specs.Scheduling.{order, Turns, Gives, Schedules}
 use Rattle.analysis.specs.Writing.{Pasted, Fronted}
 use Rattle.analysis.specs.declared.outlook.Outlook.{Outlook}
 use Rattle.scheduling.specs.declared.passes.Stage.{Stage}
+use Rattle.scheduling.specs.declared.refusals.ScheduleRefusal.TheVariants.{TooShort}
 use Rattle.scheduling.specs.declared.passes.Stage.TheVariants.{Early, Late, Kept, Other}
 use Rattle.analysis.proofs.Asked.{chart_laws, few_messages, event_has_message}
-use Rattle.analysis.proofs.Pasting.{pasted_none, pasted_more, at_front}
+use Rattle.analysis.proofs.Pasting.{pasted_none, pasted_more}
 use Rattle.scheduling.proofs.Stages.{firings_append, length_firings, pass_grows, listed_planned}
 
 -- these bytes were put at a place, and r is the place after them
@@ -103,6 +104,10 @@ module _ (c : Content) where
             length-append (done_in Early k ++ done_in Late k) (done_in Kept k),
             length-append (done_in Early k) (done_in Late k),
           )
+
+-- a buffer with no room is refused as too short, and is left as it was
+pub no_room : (c : Content) (rule : Tag → Tag → Bool) (room a b : ℕ) (old : List ℕ) → PairAt c a b → Turns c rule room a b → length old < 2 * length c.events → Schedules c rule room a b old (Err TooShort) old
+no_room c rule room a b old pair turns less = (pair, turns, less, refl)
 
 -- the schedule of a reversible pair
 module _ (chart : Chart) (rule : Tag → Tag → Bool) (room : ℕ) (transitive : Transitive rule) (some : 1 ≤ room) (a b : ℕ) (pair : PairAt (content chart) a b) (turns : Turns (content chart) rule room a b) (o : Outlook) (told : Outlooks (scene_of (content chart) rule room) (message_of (event_at (content chart) a)) (message_of (event_at (content chart) b)) o) where

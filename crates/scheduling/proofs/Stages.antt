@@ -1,5 +1,5 @@
 -- The stages are the passes of the plan, and their records stand one after another.
-use Rattle.std.proofs.Common.{◌≡◌, ℕ, zero, suc, ◌+◌, ◌*◌, ◌<◌, ◌≤◌, Bool, true, false, cond, not, ◌&&◌, ◌||◌, eqb, ltb, List, [], ◌∷◌, ◌++◌, length, sym, refl, ap, ◌∙◌, subst, ap₂, inl, inr, append_assoc, arith, length-append}
+use Rattle.std.proofs.Common.{◌≡◌, ℕ, zero, suc, ◌*◌, ◌<◌, ◌≤◌, Bool, false, cond, not, ◌&&◌, ◌||◌, eqb, List, [], ◌∷◌, ◌++◌, length, sym, refl, ap, ◌∙◌, ap₂, inl, inr, append_assoc, arith, length-append}
 use Rattle.std.proofs.lemmas.Bool.{cases_lt, lt-ltb}
 use Rattle.chart.specs.Content.{Happening, sent, received, Content}
 use Rattle.matrix.specs.Places.{place_of}
@@ -9,9 +9,9 @@ use Rattle.order.specs.Order.{Scene}
 use Rattle.schedules.specs.Plan.{pass, leads, follows, stuck, sent_first, schedule_of}
 use Rattle.scheduling.specs.Firings.{firing, firings}
 use Rattle.analysis.specs.Outlooks.{Outlooks}
-use Rattle.scheduling.specs.Passes.{has_out, leads_in, follows_in, stuck_in, sends, receives, listed}
+use Rattle.scheduling.specs.Passes.{has_out, leads_in, follows_in, stuck_in, sends, listed}
 use Rattle.analysis.specs.declared.outlook.Outlook.{Outlook}
-use Rattle.scheduling.specs.declared.passes.Stage.TheVariants.{Early, Late, Kept, Other}
+use Rattle.scheduling.specs.declared.passes.Stage.TheVariants.{Early, Late, Other}
 
 module _ (c : Content) where
   pub firings_append : (xs ys : List Happening) → firings c (xs ++ ys) ≡ firings c xs ++ firings c ys

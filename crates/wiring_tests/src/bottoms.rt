@@ -11,6 +11,7 @@ use wirings::hold_rule::HoldRule;
 fn bag_gives_parcels_in_any_order(rt: HostRuntime) -> Result<(), Fail> {
     let mut bag = new_bag(rt.alloc())?;
     play(
+        &rt,
         &mut bag,
         &[
             Step::Put(0, 0, 1),
@@ -33,6 +34,7 @@ fn bag_gives_parcels_in_any_order(rt: HostRuntime) -> Result<(), Fail> {
 fn paired_line_keeps_the_order_of_each_pair(rt: HostRuntime) -> Result<(), Fail> {
     let mut line = new_paired_line(rt.alloc())?;
     play(
+        &rt,
         &mut line,
         &[
             Step::Put(0, 0, 1),
@@ -73,6 +75,7 @@ fn paired_line_keeps_the_order_of_each_pair(rt: HostRuntime) -> Result<(), Fail>
 fn mailbox_keeps_the_order_of_each_receiver(rt: HostRuntime) -> Result<(), Fail> {
     let mut mailbox = new_mailbox(rt.alloc())?;
     play(
+        &rt,
         &mut mailbox,
         &[
             Step::Put(5, 0, 1),
@@ -106,6 +109,7 @@ fn mailbox_keeps_the_order_of_each_receiver(rt: HostRuntime) -> Result<(), Fail>
 fn meeting_has_room_for_one(rt: HostRuntime) -> Result<(), Fail> {
     let mut meeting = new_meeting(rt.alloc())?;
     play(
+        &rt,
         &mut meeting,
         &[
             Step::Put(0, 0, 1),

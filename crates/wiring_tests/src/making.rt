@@ -10,9 +10,9 @@ use std::test::*;
 use wirings::bottoms::{Bag, new_bag};
 
 // A bag in which one parcel waits.
-fn used_bag(rt: HostRuntime) -> Result<Bag, Fail> {
+fn used_bag(rt: &(impl Abort + AllocGlobal)) -> Result<Bag, Fail> {
     let mut bag = new_bag(rt.alloc())?;
-    play(&mut bag, &[Step::Put(7, 0, 1)])?;
+    play(rt, &mut bag, &[Step::Put(7, 0, 1)])?;
     Ok(bag)
 }
 
@@ -68,7 +68,7 @@ fn relayed(bag: Bag, number: u16) -> Result<Bag, Fail> {
 
 #[test]
 fn bounds_outside_are_refused(rt: HostRuntime) -> Result<(), Fail> {
-    let bag = no_bound(&rt, used_bag(rt)?, 0)?;
+    let bag = no_bound(&rt, used_bag(&rt)?, 0)?;
     let bag = no_bound(&rt, bag, 65)?;
     let bag = no_bound(&rt, bag, 65_535)?;
     let bag = bounded(&rt, bag, 1)?;
@@ -79,7 +79,7 @@ fn bounds_outside_are_refused(rt: HostRuntime) -> Result<(), Fail> {
 
 #[test]
 fn relays_outside_are_refused(rt: HostRuntime) -> Result<(), Fail> {
-    let bag = no_relay(&rt, used_bag(rt)?, 15)?;
+    let bag = no_relay(&rt, used_bag(&rt)?, 15)?;
     let bag = no_relay(&rt, bag, 32)?;
     let bag = no_relay(&rt, bag, 128)?;
     let bag = relayed(bag, 16)?;

@@ -45,6 +45,7 @@ fn bound_stops_at_its_number(rt: HostRuntime) -> Result<(), Fail> {
     let mut pile = bound(new_paired_line(rt.alloc())?, 2)?;
     assert_eq!(rt; pile.capacity(), 2);
     play(
+        &rt,
         &mut pile,
         &[
             Step::Put(0, 0, 1),
@@ -71,6 +72,7 @@ fn bound_stops_at_its_number(rt: HostRuntime) -> Result<(), Fail> {
 fn uppermost_bound_at_its_limit_is_named(rt: HostRuntime) -> Result<(), Fail> {
     let mut inner = bound(bound(new_bag(rt.alloc())?, 1)?, 2)?;
     play(
+        &rt,
         &mut inner,
         &[
             Step::Put(0, 0, 1),
@@ -79,6 +81,7 @@ fn uppermost_bound_at_its_limit_is_named(rt: HostRuntime) -> Result<(), Fail> {
     )?;
     let mut outer = bound(bound(new_bag(rt.alloc())?, 2)?, 1)?;
     play(
+        &rt,
         &mut outer,
         &[
             Step::Put(0, 0, 1),
@@ -87,6 +90,7 @@ fn uppermost_bound_at_its_limit_is_named(rt: HostRuntime) -> Result<(), Fail> {
     )?;
     let mut both = bound(bound(new_bag(rt.alloc())?, 1)?, 1)?;
     play(
+        &rt,
         &mut both,
         &[
             Step::Put(0, 0, 1),
@@ -96,6 +100,7 @@ fn uppermost_bound_at_its_limit_is_named(rt: HostRuntime) -> Result<(), Fail> {
     let mut bottom = bound(new_meeting(rt.alloc())?, 3)?;
     assert_eq!(rt; bottom.capacity(), 1);
     play(
+        &rt,
         &mut bottom,
         &[
             Step::Put(0, 0, 1),
@@ -109,6 +114,7 @@ fn relay_sends_for_its_group(rt: HostRuntime) -> Result<(), Fail> {
     let mut pile = relay(new_paired_line(rt.alloc())?, 0, 2, 16)?;
     assert_eq!(rt; pile.capacity(), 64);
     play(
+        &rt,
         &mut pile,
         &[
             Step::Put(0, 0, 1),
@@ -143,6 +149,7 @@ fn relay_sends_for_its_group(rt: HostRuntime) -> Result<(), Fail> {
 fn relay_over_meeting_is_full_at_layer_one(rt: HostRuntime) -> Result<(), Fail> {
     let mut pile = relay(new_meeting(rt.alloc())?, 0, 1, 31)?;
     play(
+        &rt,
         &mut pile,
         &[
             Step::Put(0, 0, 1),
@@ -155,6 +162,7 @@ fn relay_over_meeting_is_full_at_layer_one(rt: HostRuntime) -> Result<(), Fail> 
 fn chained_relays_show_one_after_the_other(rt: HostRuntime) -> Result<(), Fail> {
     let mut alike = relay(relay(new_paired_line(rt.alloc())?, 2, 2, 16)?, 0, 0, 16)?;
     play(
+        &rt,
         &mut alike,
         &[
             Step::Put(0, 0, 1),
@@ -172,6 +180,7 @@ fn chained_relays_show_one_after_the_other(rt: HostRuntime) -> Result<(), Fail> 
     )?;
     let mut apart = relay(relay(new_paired_line(rt.alloc())?, 2, 2, 17)?, 0, 0, 16)?;
     play(
+        &rt,
         &mut apart,
         &[
             Step::Put(0, 0, 1),
@@ -187,6 +196,7 @@ fn tall_pile_names_bound_or_bottom(rt: HostRuntime) -> Result<(), Fail> {
     let lower = bound(relay(new_paired_line(rt.alloc())?, 2, 3, 17)?, 2)?;
     let mut pile = relay(lower, 0, 1, 16)?;
     play(
+        &rt,
         &mut pile,
         &[
             Step::Put(0, 0, 5),

@@ -92,7 +92,7 @@ use std::test::*;
 
 // The count of layers stops at 255, and a stranger's layers are passed on like ours.
 #[test]
-fn layers_stop_at_255() -> Result<(), Fail> {
+fn layers_stop_at_255(rt: HostRuntime) -> Result<(), Fail> {
     let Ok(lower) = Bound::new(
         Slot {
             parcel: None,
@@ -107,6 +107,7 @@ fn layers_stop_at_255() -> Result<(), Fail> {
     };
     let mut pile = upper;
     play(
+        &rt,
         &mut pile,
         &[
             Step::Put(0, 0, 1),

@@ -4,6 +4,7 @@ use delivery::meaning::Delivery;
 use delivery::parcel::{Parcel, Tag};
 use delivery::refusal::{Accepted, PutRefusal, TakeRefusal};
 use delivery::station::Station;
+use std::process::Abort;
 use std::test::*;
 
 pub(crate) enum Step {
@@ -39,39 +40,38 @@ fn parcel(message: u16, sender: u16, receiver: u16) -> Result<Parcel, Fail> {
     })
 }
 
-fn perform<D: Delivery>(delivery: &mut D, step: &Step) -> Result<(), Fail> {
+fn perform<D: Delivery>(rt: &impl Abort, delivery: &mut D, step: &Step) -> Result<(), Fail> {
     match step {
         Step::Put(n, from, to) => {
-            assert_eq!(delivery.put(parcel(*n, *from, *to)?), Ok(Accepted));
-            Ok(())
-        },
+            assert_eq!(rt; delivery.put(parcel(*n, *from, *to)?), Ok(Accepted));
+        }
         Step::Refused(n, from, to, why) => {
-            assert_eq!(delivery.put(parcel(*n, *from, *to)?), Err(*why));
-            Ok(())
-        },
+            assert_eq!(rt; delivery.put(parcel(*n, *from, *to)?), Err(*why));
+        }
         Step::Take(n, from, to) => {
-            assert_eq!(delivery.take(MessageId(*n)), Ok(parcel(*n, *from, *to)?));
-            Ok(())
-        },
+            assert_eq!(rt; delivery.take(MessageId(*n)), Ok(parcel(*n, *from, *to)?));
+        }
         Step::Stays(n, why) => {
-            assert_eq!(delivery.take(MessageId(*n)), Err(*why));
-            Ok(())
-        },
+            assert_eq!(rt; delivery.take(MessageId(*n)), Err(*why));
+        }
         Step::Count(count) => {
-            assert_eq!(delivery.count(), *count);
-            Ok(())
-        },
+            assert_eq!(rt; delivery.count(), *count);
+        }
         Step::Waits(n, answer) => {
-            assert_eq!(delivery.waits(MessageId(*n)), *answer);
-            Ok(())
-        },
+            assert_eq!(rt; delivery.waits(MessageId(*n)), *answer);
+        }
     }
+    Ok(())
 }
 
-pub(crate) fn play<D: Delivery>(delivery: &mut D, steps: &[Step]) -> Result<(), Fail> {
+pub(crate) fn play<D: Delivery>(
+    rt: &impl Abort,
+    delivery: &mut D,
+    steps: &[Step],
+) -> Result<(), Fail> {
     delivery.empty();
     for step in steps {
-        perform(delivery, step)?;
+        perform(rt, delivery, step)?;
     }
     Ok(())
 }

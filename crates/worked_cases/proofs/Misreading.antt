@@ -1,10 +1,8 @@
 -- What the three misreadings say, and what the runs do.
-use Rattle.std.proofs.Common.{◌≡◌, ℕ, ◌<◌, ◌≤◌, Bool, not, ◌&&◌, ◌||◌, T, eqb, ltb, ◌⊎◌, List, [], ◌∷◌, length, sym, refl, ap, subst, inl, inr, ⊎_elim, arith, lit<, lit≤, eqb→eq, ltb→lt, T_not}
+use Rattle.std.proofs.Common.{◌≡◌, ℕ, ◌<◌, Bool, not, ◌&&◌, ◌||◌, T, eqb, ltb, ◌⊎◌, refl, ap, subst, inl, inr, ⊎_elim, arith, lit<, lit≤, eqb→eq, ltb→lt, T_not}
 use Rattle.chart.specs.Content.{Happening, sent, received, message_of, sender_of, sent_at}
 use Rattle.order.specs.Order.{Scene, Laws, Enforced}
-use Rattle.order.specs.Runs.{CanReverse}
-use Rattle.order.specs.Reversible.{Crowd, CrowdFits}
-use Rattle.order.specs.Pass.{rows, enforces, chosen, between}
+use Rattle.order.specs.Pass.{rows, enforces}
 use Rattle.order.specs.Scenes.{above, instance_of, number_of}
 use Rattle.wirings.specs.Rules.{no_hold, same_pair, same_receiver}
 use Rattle.worked_cases.specs.Cases.{twin, throng, detour}

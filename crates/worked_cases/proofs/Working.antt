@@ -1,12 +1,11 @@
 -- The worked cases, by computing.
-use Rattle.std.proofs.Common.{◌≡◌, ℕ, zero, suc, ◌<◌, ◌≤◌, min, Bool, true, false, ◌&&◌, T, eqb, ◌⊎◌, List, [], ◌∷◌, length, get_or, count_by, sym, refl, ap, ◌∙◌, subst, inl, inr, ⊎_elim, arith, lit<, lit≤, eqb→eq}
-use Rattle.std.specs.List.{AllByRecursion as All}
+use Rattle.std.proofs.Common.{◌≡◌, ℕ, zero, suc, ◌<◌, ◌≤◌, Bool, true, ◌&&◌, T, eqb, List, length, count_by, sym, refl, ◌∙◌, subst, ⊎_elim, arith, lit≤, eqb→eq}
+use Rattle.std.specs.List.{AllByRecursion}
 use Rattle.std.proofs.ByRecursion.{All-get_or}
 use Rattle.std.proofs.lemmas.Bool.{and_parts, and_from, eqb-true, eq-eqb}
-use Rattle.chart.specs.Content.{Content, joins, is_received, is_sending, Numbered, AllSent}
+use Rattle.chart.specs.Content.{Content, joins, is_received, Numbered, AllSent}
 use Rattle.delivery.specs.declared.parcel.Tag.{Tag}
-use Rattle.order.specs.Order.{Laws}
-use Rattle.order.specs.Scenes.{Laid, scene_of, station}
+use Rattle.order.specs.Scenes.{Laid, station}
 use Rattle.order.specs.Report.{Reports, report}
 use Rattle.delivery.specs.declared.station.Station.{Station}
 use Rattle.wirings.specs.Rules.{no_hold, same_pair, same_receiver}
@@ -30,7 +29,7 @@ every_at p (suc n) x t l =
 
 -- a chart that is written out is told by tests
 laid_by :
-    (c : Content) → length c.instances ≤ 16 → All (λ p. joins (length c.instances) p ≡ true) c.messages → Numbered c → AllSent c →
+    (c : Content) → length c.instances ≤ 16 → AllByRecursion (λ p. joins (length c.instances) p ≡ true) c.messages → Numbered c → AllSent c →
     T (every (λ m. eqb (count_by (is_received m) c.events) 1) (length c.messages)) → Laid c
 laid_by c few joined numbered all_sent received = record {
   few_instances = few;

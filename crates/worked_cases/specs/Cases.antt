@@ -1,7 +1,7 @@
 -- Charts to work by, and their reversible pairs over the wirings.
 use Rattle.std.specs.Prelude.{ℕ, min, Bool, true, false, List, [], ◌∷◌, replicate, codes}
 use Rattle.chart.specs.Words.{Text}
-use Rattle.chart.specs.Content.{Happening, sent, received, Post, Content}
+use Rattle.chart.specs.Content.{sent, received, Post, Content}
 use Rattle.delivery.specs.declared.parcel.Tag.{Tag}
 use Rattle.delivery.specs.declared.station.Station.{Station}
 use Rattle.delivery.specs.Waiting.{message_limit}

@@ -1,5 +1,5 @@
 -- Ways to misread the order, each with a chart on which it gives another answer than the runs do.
-use Rattle.std.specs.Prelude.{◌≡◌, ℕ, ◌<◌, ◌≤◌, Bool, T, ◌⊎◌}
+use Rattle.std.specs.Prelude.{◌≡◌, ℕ, ◌<◌, ◌≤◌, T, ◌⊎◌}
 use Rattle.chart.specs.Content.{Happening, sent, received, message_of, Content}
 use Rattle.order.specs.Order.{Scene, Enforced}
 use Rattle.order.specs.Runs.{CanReverse}

@@ -1,4 +1,4 @@
-use Rattle.std.proofs.Common.{◌≡◌, ◌<◌, length, sym, refl, ◌∙◌, arith}
+use Rattle.std.proofs.Common.{◌<◌, length, sym, refl, ◌∙◌, arith}
 use Rattle.chart.specs.Charted.{content}
 use Rattle.order.specs.Scenes.{scene_of}
 use Rattle.analysis.proofs.Asked.{as_many_events}

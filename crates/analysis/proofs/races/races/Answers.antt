@@ -13,7 +13,7 @@ unmade P (Err y) e = tt
 pub returns-in_err-push : goal.returns-in_err-push
 returns-in_err-push g c =
     let d = c.args.delivery.now in
-    record { lists = unmade _ c.from-residual.result c.from-residual.ensures.0; exact = exact_pairs c.args.chart.now _ _ (g.met.D.Delivery.transitive d) (g.met.D.Delivery.some d) }
+    record { lists = unmade _ c.from_residual.result c.from_residual.ensures.0; exact = exact_pairs c.args.chart.now _ _ (g.met.D.Delivery.transitive d) (g.met.D.Delivery.some d) }
 
 pub returns : goal.returns
 returns g c =

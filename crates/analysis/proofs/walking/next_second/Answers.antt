@@ -12,12 +12,12 @@ events_are chart xs e = ap length e ∙ sym chart.parts.events.ok.0 ∙ sym (eve
 pub is_race-requires : goal.is_race-requires
 is_race-requires g c =
     let e = events_are c.args.chart.now c.events-events.result.now c.events-events.ensures in
-    record { filled = c.requires.filled; foreseen = c.requires.sweeps.foreseen; first_inside = c.requires.sweeps.inside; second_inside = subst (λ n. c.loop-number.number < n) e c.loop-number-test.true }
+    record { filled = c.requires.filled; foreseen = c.requires.sweeps.foreseen; first_inside = c.requires.sweeps.inside; second_inside = omega arith }
 
 pub returns-then-is_race : goal.returns-then-is_race
 returns-then-is_race g c =
     let e = events_are c.args.chart.now c.events-events.result.now c.events-events.ensures in
-    (c.loop-number.auto.number, subst (λ n. c.loop-number.number < n) e c.loop-number-test.true, sym c.if-is_race.ensures, c.loop-number.invariant)
+    (c.loop-number.auto.number, omega arith, sym c.if-is_race.ensures, c.loop-number.invariant)
 
 -- one number more
 one_more : (q : ℕ → Bool) (low n : ℕ) → ((y : ℕ) → low ≤ y → y < n → q y ≡ false) → q n ≡ false → (y : ℕ) → low ≤ y → y < n + 1 → q y ≡ false

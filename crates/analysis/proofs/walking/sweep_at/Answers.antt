@@ -13,7 +13,7 @@ returns-in_err-line g c =
     let chart = c.args.chart.now in
     let rule = g.D.Delivery.rule c.args.delivery.now in
     let room = g.D.Delivery.room c.args.delivery.now in
-    subst (Begins (content chart) rule room c.args.first.0) (sym c.from-residual.ensures)
+    subst (Begins (content chart) rule room c.args.first.0) (sym c.from_residual.ensures)
     (line_unknown (content chart) c.args.first.0 c.in_err-line.ensures)
 
 pub returns : goal.returns

@@ -1,4 +1,4 @@
-use Rattle.std.proofs.Common.{◌≡◌, ℕ, sym, ◌∙◌, rules}
+use Rattle.std.proofs.Common.{◌≡◌, sym, ◌∙◌, rules}
 use Rattle.chart.specs.Drafted.{drafted}
 use Rattle.chart.specs.Drafting.{with_message}
 use Rattle.chart.specs.Names.{text_of}

@@ -3,11 +3,10 @@ use Rattle.std.proofs.lemmas.Result.{err_from_is_err_and}
 use Rattle.chart.specs.Drafted.{drafted}
 use Rattle.chart.specs.Content.{Content}
 use Rattle.chart.specs.Words.{Text}
-use Rattle.reader.specs.Answers.{step_read, step_by}
-use Rattle.reader.specs.Reading.{Outcome, Step, more, ended, then, go_on, step_of, steps_from}
+use Rattle.reader.specs.Answers.{step_by}
+use Rattle.reader.specs.Reading.{Outcome, Step, then, go_on, step_of, steps_from}
 use Rattle.reader.specs.declared.steps.Part.{Part}
 use Rattle.reader.specs.declared.steps.Step.{Step as Taken}
-use Rattle.reader.specs.declared.steps.Step.TheVariants.{More, Ended}
 use Rattle.reader.proofs.Moving.{step_shorter}
 use Rattle.reader.proofs.steps.whole_part.Goals as goal
 

@@ -10,10 +10,10 @@ loop-byte-preserved c =
     elim c.if-byte-eq10.branch [
       | then-byte-eq10 w ↦
           let feed = at_line_feed c.args.before.now c.loop-byte.byte-index (omega arith) w.if-byte-eq10.true in
-          (omega (arith, w.line_is, c.loop-byte.invariant.0, feed.0), omega (arith, w.column-is, feed.1), omega (arith, w.line_is, c.loop-byte.invariant.2), omega (arith, w.column-is))
+          (omega (arith, w.line-is, c.loop-byte.invariant.0, feed.0), omega (arith, w.column-is, feed.1), omega (arith, w.line-is, c.loop-byte.invariant.2), omega (arith, w.column-is))
       | else-byte-eq10 w ↦
           let other = at_other c.args.before.now c.loop-byte.byte-index (omega arith) w.if-byte-eq10.false in
-          (omega (arith, w.line_is, c.loop-byte.invariant.0, other.0), omega (arith, w.column-is, c.loop-byte.invariant.1, other.1), omega (arith, w.line_is, c.loop-byte.invariant.2), omega (arith, w.column-is, c.loop-byte.invariant.3))
+          (omega (arith, w.line-is, c.loop-byte.invariant.0, other.0), omega (arith, w.column-is, c.loop-byte.invariant.1, other.1), omega (arith, w.line-is, c.loop-byte.invariant.2), omega (arith, w.column-is, c.loop-byte.invariant.3))
     ]
 
 pub returns : goal.returns

@@ -1,4 +1,3 @@
-use Rattle.std.proofs.Common.{sym, ◌∙◌}
 use Rattle.rehearse.proofs.Telling.{message_inside, instance_inside, partner_inside, row_is}
 use Rattle.rehearse.proofs.table.row_of.Goals as goal
 

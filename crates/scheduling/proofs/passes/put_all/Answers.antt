@@ -1,4 +1,4 @@
-use Rattle.std.proofs.Common.{◌≡◌, length, sym, subst, arith}
+use Rattle.std.proofs.Common.{length, sym, subst, arith}
 use Rattle.chart.specs.Charted.{content}
 use Rattle.analysis.specs.Writing.{Pasted}
 use Rattle.scheduling.specs.declared.passes.Stage.TheVariants.{Early, Late, Kept, Other}

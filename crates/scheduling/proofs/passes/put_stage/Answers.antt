@@ -1,4 +1,4 @@
-use Rattle.std.proofs.Common.{◌≡◌, ◌<◌, length, ap, subst, arith}
+use Rattle.std.proofs.Common.{◌≡◌, ◌<◌, length, subst, arith}
 use Rattle.chart.specs.Charted.{content}
 use Rattle.analysis.proofs.Asked.{as_many_messages}
 use Rattle.scheduling.proofs.Orders.{Put, done_in, done_grows, put_next}

@@ -1,4 +1,4 @@
-use Rattle.std.proofs.Common.{◌≡◌, cond, [], ◌∷◌, sym, ◌∙◌, subst}
+use Rattle.std.proofs.Common.{cond, [], ◌∷◌, sym}
 use Rattle.chart.specs.Charted.{content}
 use Rattle.chart.specs.Content.{sent, received}
 use Rattle.scheduling.specs.Firings.{firings}
@@ -15,14 +15,14 @@ returns-then-receives c =
     let h = c.args.message.0 in
     let old = c.args.buffer.now in
     let p = c.args.at in
-    let first : Put old p (firings chart (cond (sends o t h) (sent h ∷ []) [])) c.if_sends.buffer c.if_sends.place = elim c.if_sends.branch [
+    let first : Put old p (firings chart (cond (sends o t h) (sent h ∷ []) [])) c.if-sends.buffer c.if-sends.place = elim c.if-sends.branch [
       | then-sends w ↦
           put_is old p _ _ _ _ _ w.buffer-is w.place-is
-          (put_wanted chart (sends o t h) (sent h) old w.put_firing-place.new.buffer p w.put_firing-place.result (sym w.if_sends.ensures) w.put_firing-place.ensures.pasted w.put_firing-place.ensures.place)
-      | else-sends w ↦ put_is old p _ _ _ _ _ w.buffer-is w.place-is (put_unwanted chart (sends o t h) (sent h) old p (sym w.if_sends.ensures))
+          (put_wanted chart (sends o t h) (sent h) old w.put_firing-place.new.buffer p w.put_firing-place.result (sym w.if-sends.ensures) w.put_firing-place.ensures.pasted w.put_firing-place.ensures.place)
+      | else-sends w ↦ put_is old p _ _ _ _ _ w.buffer-is w.place-is (put_unwanted chart (sends o t h) (sent h) old p (sym w.if-sends.ensures))
     ] in
-    let second = put_wanted chart (receives o t h) (received h) c.if_sends.buffer c.put_firing-place-then-receives.new.buffer c.if_sends.place c.put_firing-place-then-receives.result (sym c.if-receives.ensures) c.put_firing-place-then-receives.ensures.pasted c.put_firing-place-then-receives.ensures.place in
-    let k = put_both chart o t h old c.if_sends.buffer c.put_firing-place-then-receives.new.buffer p c.if_sends.place c.put_firing-place-then-receives.result c.requires.room first second in
+    let second = put_wanted chart (receives o t h) (received h) c.if-sends.buffer c.put_firing-place-then-receives.new.buffer c.if-sends.place c.put_firing-place-then-receives.result (sym c.if-receives.ensures) c.put_firing-place-then-receives.ensures.pasted c.put_firing-place-then-receives.ensures.place in
+    let k = put_both chart o t h old c.if-sends.buffer c.put_firing-place-then-receives.new.buffer p c.if-sends.place c.put_firing-place-then-receives.result c.requires.room first second in
     record { pasted = k.pasted; place = k.place }
 
 pub returns-else-receives : goal.returns-else-receives
@@ -33,12 +33,12 @@ returns-else-receives c =
     let h = c.args.message.0 in
     let old = c.args.buffer.now in
     let p = c.args.at in
-    let first : Put old p (firings chart (cond (sends o t h) (sent h ∷ []) [])) c.if_sends.buffer c.if_sends.place = elim c.if_sends.branch [
+    let first : Put old p (firings chart (cond (sends o t h) (sent h ∷ []) [])) c.if-sends.buffer c.if-sends.place = elim c.if-sends.branch [
       | then-sends w ↦
           put_is old p _ _ _ _ _ w.buffer-is w.place-is
-          (put_wanted chart (sends o t h) (sent h) old w.put_firing-place.new.buffer p w.put_firing-place.result (sym w.if_sends.ensures) w.put_firing-place.ensures.pasted w.put_firing-place.ensures.place)
-      | else-sends w ↦ put_is old p _ _ _ _ _ w.buffer-is w.place-is (put_unwanted chart (sends o t h) (sent h) old p (sym w.if_sends.ensures))
+          (put_wanted chart (sends o t h) (sent h) old w.put_firing-place.new.buffer p w.put_firing-place.result (sym w.if-sends.ensures) w.put_firing-place.ensures.pasted w.put_firing-place.ensures.place)
+      | else-sends w ↦ put_is old p _ _ _ _ _ w.buffer-is w.place-is (put_unwanted chart (sends o t h) (sent h) old p (sym w.if-sends.ensures))
     ] in
-    let second = put_unwanted chart (receives o t h) (received h) c.if_sends.buffer c.if_sends.place (sym c.if-receives.ensures) in
-    let k = put_both chart o t h old c.if_sends.buffer c.if_sends.buffer p c.if_sends.place c.if_sends.place c.requires.room first second in
+    let second = put_unwanted chart (receives o t h) (received h) c.if-sends.buffer c.if-sends.place (sym c.if-receives.ensures) in
+    let k = put_both chart o t h old c.if-sends.buffer c.if-sends.buffer p c.if-sends.place c.if-sends.place c.requires.room first second in
     record { pasted = k.pasted; place = k.place }
