@@ -1,12 +1,10 @@
 -- Report, schedule and record agree, since all three go by the runs.
-use Rattle.std.proofs.Common.{◌≡◌, ℕ, Bool, ◌⊎◌, ◌↔◌, List, ◌++◌, reverse, Ok, Err, Result, subst, inl, inr}
+use Rattle.std.proofs.Common.{◌≡◌, ℕ, Bool, List, ◌++◌, reverse, Ok, Err, Result, subst, inl, inr}
 use Rattle.chart.specs.Content.{Happening, Content}
 use Rattle.chart.specs.declared.numbers.EventId.{EventId}
 use Rattle.delivery.specs.declared.parcel.Tag.{Tag}
-use Rattle.order.specs.Lists.{Has}
-use Rattle.order.specs.Report.{report}
 use Rattle.order.specs.Runs.{Run, Reverses}
-use Rattle.order.specs.Scenes.{scene_of, event_at, PairAt}
+use Rattle.order.specs.Scenes.{scene_of, event_at}
 use Rattle.order.specs.Verdict.{Judged}
 use Rattle.bench.specs.Records.{past}
 use Rattle.analysis.specs.Races.{races_of}
@@ -15,7 +13,7 @@ use Rattle.analysis.specs.declared.refusals.ReportRefusal.{ReportRefusal}
 use Rattle.scheduling.specs.Scheduling.{order, Schedules}
 use Rattle.scheduling.specs.declared.refusals.ScheduleRefusal.{ScheduleRefusal}
 use Rattle.scheduling.specs.declared.refusals.ScheduleRefusal.TheVariants.{NotPair, NotReversible, TooShort}
-use Rattle.promise.specs.Promise.{pairs, Reversal, Reported, Scheduled, Recorded}
+use Rattle.promise.specs.Promise.{Reversal, Reported, Scheduled, Recorded}
 
 module _ (c : Content) (rule : Tag → Tag → Bool) (room : ℕ) (j : Judged c rule room) where
   -- a complete run that reverses a pair fires each event of the chart once

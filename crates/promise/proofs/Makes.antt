@@ -1,5 +1,5 @@
 -- Calls that are known by their kind, and calls after calls.
-use Rattle.std.proofs.Common.{◌≡◌, ℕ, ◌+◌, ◌≤◌, List, [], ◌∷◌, ◌++◌, Ok, Err, Result, refl, ◌∙◌, subst, arith}
+use Rattle.std.proofs.Common.{◌≡◌, ℕ, ◌+◌, ◌≤◌, List, [], ◌∷◌, ◌++◌, Ok, Err, Result, ◌∙◌, subst, arith}
 use Rattle.chart.specs.declared.numbers.EventId.{EventId}
 use Rattle.chart.specs.Content.{Content}
 use Rattle.delivery.specs.declared.meaning.Delivery.{Ghosts}

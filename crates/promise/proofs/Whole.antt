@@ -1,18 +1,16 @@
 -- The whole promise, from what the calls ensure.
-use Rattle.std.proofs.Common.{◌≡◌, ℕ, ◌≤◌, Bool, List, vec_items, Result, sym, refl, ap, ◌∙◌, subst}
+use Rattle.std.proofs.Common.{◌≡◌, ℕ, ◌≤◌, List, vec_items, Result, refl, ap, ◌∙◌, subst}
 use Rattle.chart.specs.Charted.{content}
-use Rattle.chart.specs.Content.{Content}
 use Rattle.chart.specs.declared.charting.Chart.{Chart}
 use Rattle.delivery.specs.declared.meaning.Delivery.{Ghosts}
-use Rattle.delivery.specs.declared.parcel.Tag.{Tag}
 use Rattle.order.specs.Verdict.{Judged}
 use Rattle.order.specs.Runs.{Run}
 use Rattle.order.specs.Scenes.{scene_of}
 use Rattle.order.proofs.Scenes.{Transitive, laws}
 use Rattle.order.proofs.Verdict.{judged, chart_laid}
-use Rattle.bench.specs.Benches.{Sound, Same, OpenedOver, stage_of, state_of}
+use Rattle.bench.specs.Benches.{Sound, Same, OpenedOver, stage_of}
 use Rattle.bench.specs.Records.{past}
-use Rattle.bench.specs.States.{Stage, State, cleared}
+use Rattle.bench.specs.States.{Stage, State}
 use Rattle.bench.specs.declared.stand.Bench.{Bench}
 use Rattle.analysis.specs.Races.{races_of}
 use Rattle.analysis.specs.Reporting.{counted, reported}

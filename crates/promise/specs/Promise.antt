@@ -4,7 +4,6 @@ use Rattle.chart.specs.Content.{Happening, Content}
 use Rattle.chart.specs.declared.numbers.EventId.{EventId}
 use Rattle.delivery.specs.declared.parcel.Tag.{Tag}
 use Rattle.order.specs.Lists.{Has, Once, Rising}
-use Rattle.order.specs.Order.{Scene}
 use Rattle.order.specs.Report.{report}
 use Rattle.order.specs.Runs.{Run, Reversed}
 use Rattle.order.specs.Scenes.{scene_of, event_at, PairAt, AllFired}

@@ -1,5 +1,6 @@
 -- Calls on a bench, one after the other, and what they answer.
 use Rattle.std.specs.Prelude.{◌≡◌, ℕ, ◌+◌, ◌<◌, ◌≤◌, List, [], ◌∷◌, ◌++◌, Ok, Err, Result}
+use Rattle.std.specs.Borrow.{Bor}
 use Rattle.chart.specs.declared.numbers.EventId.{EventId}
 use Rattle.bench.specs.declared.refusal.Refusal.{Refusal}
 use Rattle.bench.specs.States.{Stage, State}
@@ -19,7 +20,7 @@ slips_after (Err f) k = k
 pub data Made (g : Stage) : State → ℕ → Call → Answer → State → ℕ → Type 0 where
   fire : {s t : State} {k : ℕ} {e : EventId} {r : Result (Unit {0}) Refusal} → Fired g s e r t → Made g s k (call.Fire e) (answer.Fired r) t k
   clear : {s t : State} {k : ℕ} {r : Result (Unit {0}) Refusal} → Cleared s r t → Made g s k call.Clear (answer.Cleared r) t k
-  begin : {s t : State} {k : ℕ} {bytes : _} {r : Result (Unit {0}) Refusal} → Begun g s bytes.now r t → Made g s k (call.Begin bytes) (answer.Begun r) t (slips_after r k)
+  begin : {s t : State} {k : ℕ} {bytes : Bor (List ℕ)} {r : Result (Unit {0}) Refusal} → Begun g s bytes.now r t → Made g s k (call.Begin bytes) (answer.Begun r) t (slips_after r k)
   advance : {s t : State} {k i : ℕ} {r : Result (Unit {0}) Refusal} → i < k → Advanced g s r t → Made g s k (call.Advance i) (answer.Advanced r) t k
   close : {s t : State} {k l i : ℕ} {r : Result ℕ Refusal} → i < k → l + 1 ≡ k → Closed s r t → Made g s k (call.Close i) (answer.Closed r) t l
   -- without a slip there is no call

@@ -1,5 +1,5 @@
-use Rattle.std.proofs.Common.{◌≡◌, true, ltb, length, sym, ◌∙◌, arith}
-use Rattle.std.proofs.lemmas.Bool.{ltb-true, lt-ltb, cond-true, cond-false}
+use Rattle.std.proofs.Common.{◌≡◌, true, ltb, length, sym, ◌∙◌, arith, rules}
+use Rattle.std.proofs.lemmas.Bool.{ltb-true, lt-ltb}
 use Rattle.chart.specs.Content.{AllReceived}
 use Rattle.chart.specs.Drafted.{drafted}
 use Rattle.chart.specs.Drafting.{all_received, times_received}
@@ -28,13 +28,7 @@ invariant_of-result c =
       numbered = d.numbered;
       all_sent = d.all_sent;
       sent_once = λ m l. sent_once (drafted d).events 0 m d.numbered (omega arith) (omega (arith, d.all_sent));
-      received_once = once d (sym c.if-not-all_received.ensures);
+      received_once = once d (search rules);
       sent_first = λ m l. sent_first (drafted d).events 0 m d.numbered (omega arith) (omega (arith, d.all_sent));
       inside = λ e x l. omega (arith, inside (drafted d).events 0 d.numbered e x l, d.all_sent);
     }
-
-pub returns-then-not-all_received : goal.returns-then-not-all_received
-returns-then-not-all_received c = sym (cond-false _ _ _ (sym c.if-not-all_received.ensures))
-
-pub returns : goal.returns
-returns c = sym (cond-true _ _ _ (sym c.if-not-all_received.ensures))
