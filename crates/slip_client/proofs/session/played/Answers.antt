@@ -1,4 +1,4 @@
-use Rattle.std.proofs.Common.{◌≡◌, ap, ◌∙◌}
+use Rattle.std.proofs.Common.{ap, ◌∙◌}
 use Rattle.bench.specs.Benches.{state_of}
 use Rattle.bench.specs.States.{State}
 use Rattle.slip_client.proofs.Closing.{shut_after}
