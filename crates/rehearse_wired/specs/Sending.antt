@@ -12,7 +12,7 @@ use Rattle.rehearse_wired.specs.declared.failures.Failure.{Failure}
 use Rattle.rehearse_wired.specs.declared.failures.Failure.TheVariants as failure
 
 abbrev pub refused_words : Text → ℕ → Text
-refused_words ground l = codes "refused: " ++ (ground ++ (codes ", layer " ++ decimal l))
+refused_words words l = codes "refused: " ++ (words ++ (codes ", layer " ++ decimal l))
 
 abbrev pub put_refusal_words : PutRefusal → Text
 put_refusal_words (Far l) = refused_words (codes "far") l

@@ -47,10 +47,10 @@ fn tag_words(heap: Global, chart: &Chart, tag: Tag) -> Result<String, AllocError
     format!(in heap; "{sender} to {receiver}")
 }
 
-fn refused_words(heap: Global, ground: &str, layer: u8) -> Result<String, AllocError>
-    ensures { IfOk result (λ s. string_bytes s ≡ refused_words ground.now layer) }
+fn refused_words(heap: Global, words: &str, layer: u8) -> Result<String, AllocError>
+    ensures { IfOk result (λ s. string_bytes s ≡ refused_words words.now layer) }
 {
-    format!(in heap; "refused: {ground}, layer {layer}")
+    format!(in heap; "refused: {words}, layer {layer}")
 }
 
 fn put_refusal_words(heap: Global, refusal: PutRefusal) -> Result<String, AllocError>
