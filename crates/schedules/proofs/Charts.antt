@@ -41,7 +41,7 @@ module _ (c : Content) (rule : Tag → Tag → Bool) (room : ℕ) (laid : Laid c
     pair_plan : (f : Happening) → event_at c b ≡ f → Reversible s (event_at c a) f → Planned s (event_at c a) f (schedule_of s (message_of (event_at c a)) (message_of f))
     pair_plan (sent n) e v = absurd ((sends_wait s law (event_at c a) n (from_true _ (pair_above c laid a b n p e))).0 v)
     pair_plan (received n) e v =
-        (plans s law).by-test (sent_first s) (plans s law).told (event_at c a) n (subst (λ x. message_of x < length c.messages) e (event_inside c laid b p.inside)) v
+        (plans s law).by_test (sent_first s) (plans s law).told (event_at c a) n (subst (λ x. message_of x < length c.messages) e (event_inside c laid b p.inside)) v
 
   pub scheduled : Scheduled c rule room
   scheduled = record {

@@ -72,5 +72,5 @@ module _ (s : Scene) (law : Laws s) (before : ℕ → ℕ → Bool) (tells : Tel
 pub plans : (s : Scene) → Laws s → Plans s
 plans s law = record {
   told = λ x y l. enforces_is s law (rows s s.messages) (all_right s law) (sent x) (sent y) l;
-  by-test = plan_stands s law;
+  by_test = plan_stands s law;
 }

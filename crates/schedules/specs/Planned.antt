@@ -27,7 +27,7 @@ Tells s before = (x y : ℕ) → y < s.messages → (T (before x y) ↔ Enforced
 pub record Plans (s : Scene) : Type 0 where
   pub told : Tells s (sent_first s)
   -- wherever an in event can come before another event, the plan has it so
-  pub by-test :
+  pub by_test :
       (before : ℕ → ℕ → Bool) → Tells s before → (a : Happening) (n : ℕ) → n < s.messages → Reversible s a (received n) →
       Planned s a (received n) (planned s before (message_of a) n)
 
