@@ -54,7 +54,7 @@ def defined(path, text):
             yield found.group(1)
             continue
         # constructors of a type, fields of a record, and what a `where` or a `let` defines
-        for found in re.finditer(r"(?:^|(?<=[\s{(]))([a-z][\w'?!\-]*) *:(?=\s)", line):
+        for found in re.finditer(r"(?:^|(?<=[\s{(]))([a-z][\w'?!\-]*) *:(?=\s|$)", line):
             yield found.group(1)
 
 

@@ -37,10 +37,10 @@ module _ (xs : List Race) where
   length_front k l = length_records (take k xs) ∙ ap (λ n. 4 * n) (length-take-le k xs l)
 
   -- the record of the next pair
-  pub record-more :
+  pub record_more :
       (k j : ℕ) (x : Race) → Step xs k (Some x) j → (old mid new bs : List ℕ) (q r : ℕ) → bs ≡ record_of x → q ≡ length (records (take k xs)) → 4 * length xs ≤ length old →
       Fronted old (records (take k xs)) mid → Pasted mid q bs new → r ≡ q + length bs → Fronted old (records (take j xs)) new × (r ≡ length (records (take j xs)))
-  record-more k j x (l, j-is, taken) old mid new bs q r is q-is room h p r-is =
+  record_more k j x (l, j-is, taken) old mid new bs q r is q-is room h p r-is =
       let e : records (take j xs) ≡ records (take k xs) ++ bs =
       ap (λ n. records (take n xs)) j-is ∙ ap records taken ∙ sym (flat_map_more record_of [] (take k xs) x) ∙ ap (λ ys. records (take k xs) ++ ys) (sym is) in
       let f = length_front k (omega arith) in (

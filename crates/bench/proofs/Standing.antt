@@ -59,10 +59,10 @@ unmoved G b = record { layout = refl; rule = refl; room = refl; layer = refl }
 
 module _ {D : Type 0} (G : Ghosts D) (c : Content) where
   -- an empty record and an empty delivery stand at the start of a run
-  pub cleared-sound :
+  pub cleared_sound :
       (b : Bench D) → G.started b.delivery → Laid c → length c.messages ≤ message_limit → vec_items b.layout.places ≡ copied c →
       vec_items b.fired ≡ [] → G.waiting b.delivery ≡ [] → b.next ≡ None → Sound G c b
-  cleared-sound b started laid few copy none empty closed =
+  cleared_sound b started laid few copy none empty closed =
       record {
         started = started;
         laid = laid;

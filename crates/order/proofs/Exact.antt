@@ -63,10 +63,10 @@ module _ (s : Scene) (law : Laws s) where
   sent_before n q (fired run c) = at_firing s (sent n) q run c.after
 
   -- the crowd of two messages that come the other way round waited at one moment of the run
-  pub crowd-met :
+  pub crowd_met :
       (m n : ℕ) (r : List Happening) → Run s r → Reversed (received m) (received n) r → Enforced s (sent m) (sent n) → (hs : List ℕ) → Crowd s m n hs →
       (p : List Happening) × Run s (sent n ∷ p) × Onward (sent n ∷ p) r × (length hs ≤ length (waits (sent n ∷ p)))
-  crowd-met m n r run v d hs k =
+  crowd_met m n r run v d hs k =
       let t = at_reversal s run v in
       let u = sent_before n t.0 t.1 in
       (u.0, u.1, onward_on (more u.2) (onward_on stay t.3), crowd_waits m n t.0 t.2 d hs k u.0 u.1 u.2)
@@ -84,7 +84,7 @@ module _ (s : Scene) (law : Laws s) where
       go (sent m) v un (yes d) = absurd (un (chain d (own i)))
       go (received m) v un (yes d) =
           let c = crowd_of s law m n d in
-          let t = crowd-met m n r run v d c.0 c.1 in
+          let t = crowd_met m n r run v d c.0 c.1 in
           let l : length c.0 ≤ length (waits (sent n ∷ t.0)) = t.3 in
           let f : length (waits (sent n ∷ t.0)) ≤ s.capacity = within_room n t.0 t.1 in
           inr (c.0, c.1, omega arith)

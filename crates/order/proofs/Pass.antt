@@ -69,18 +69,18 @@ module _ (s : Scene) (n : ℕ) where
         go ih (inl k) = let u = both_of (s.holds m n) (listed (sent m) before) k.0 in (m, es, inl refl, u.0, listed_has (sent m) before u.1, k.1)
         go ih (inr k) = let x = ih k in (x.0, x.1, inr x.2, x.3, x.4, x.5)
 
-    holder-row-to :
+    holder_row_to :
         (t : List Row) (e : Happening) (m : ℕ) (es : List Happening) → In (received m) es t → T (s.holds m n) → Has (sent m) before → Has e (received m ∷ es) → Has e (holder_row s n before t)
-    holder-row-to [] e m es i l k h = absurd i
-    holder-row-to (row (sent m') es' ∷ t) e m es (inl p) l k h = absurd (receipt_not_send (ap row_event p))
-    holder-row-to (row (sent m') es' ∷ t) e m es (inr i) l k h = holder-row-to t e m es i l k h
-    holder-row-to (row (received m') es' ∷ t) e m es (inl p) l k h =
+    holder_row_to [] e m es i l k h = absurd i
+    holder_row_to (row (sent m') es' ∷ t) e m es (inl p) l k h = absurd (receipt_not_send (ap row_event p))
+    holder_row_to (row (sent m') es' ∷ t) e m es (inr i) l k h = holder_row_to t e m es i l k h
+    holder_row_to (row (received m') es' ∷ t) e m es (inl p) l k h =
         let q : m ≡ m' = same_message (ap row_event p) in
         cond_taken e (received m' ∷ es') (holder_row s n before t) (s.holds m' n && listed (sent m') before)
         (both (s.holds m' n) (listed (sent m') before) (subst (λ x. T (s.holds x n)) q l) (subst (λ x. T (listed (sent x) before)) q (has_listed (sent m) before k)))
         (subst (λ x. Has e (row_event x ∷ row_before x)) p h)
-    holder-row-to (row (received m') es' ∷ t) e m es (inr i) l k h =
-        cond_rest e (received m' ∷ es') (holder_row s n before t) (s.holds m' n && listed (sent m') before) (holder-row-to t e m es i l k h)
+    holder_row_to (row (received m') es' ∷ t) e m es (inr i) l k h =
+        cond_rest e (received m' ∷ es') (holder_row s n before t) (s.holds m' n && listed (sent m') before) (holder_row_to t e m es i l k h)
 
 -- the table has the rows of the first n messages, and each is exact
 pub record Right (s : Scene) (n : ℕ) (t : List Row) : Type 0 where
@@ -115,7 +115,7 @@ module _ (s : Scene) (law : Laws s) where
         to (inr (m, d, h, u)) =
             let y = r.full (received m) (sends_rise s law d) in
             has_right e (sent n ∷ send_row s n t) (holder_row s n (send_row s n t) t)
-            (holder-row-to s n (send_row s n t) t e m y.0 y.1 h ((send_exact (sent m)).1 d) ((up_to e (received m) y.0 y.1).1 u))
+            (holder_row_to s n (send_row s n t) t e m y.0 y.1 h ((send_exact (sent m)).1 d) ((up_to e (received m) y.0 y.1).1 u))
 
     right_more : Right s (suc n) (with_rows s n t (send_row s n t))
     right_more = record { exact = exact; full = full }

@@ -10,7 +10,7 @@ use Rattle.order.proofs.Lists.{length_push, without_le}
 use Rattle.order.specs.Pass.{rows}
 use Rattle.order.proofs.Pass.{enforced?, crowd_of, no_longer, all_right}
 use Rattle.order.proofs.Phases.{Onward, stay, more}
-use Rattle.order.proofs.Exact.{at_reversal, crowd-met, sent_before, sufficient}
+use Rattle.order.proofs.Exact.{at_reversal, crowd_met, sent_before, sufficient}
 
 -- the same scene with another capacity
 abbrev pub narrowed : Scene → ℕ → Scene
@@ -133,7 +133,7 @@ module _ (s : Scene) (law : Laws s) (n : ℕ) (i : n < s.messages) where
       least : (r : List Happening) → Run s r → Reversed (received m) (received n) r → length (crowd_of s law m n d).0 ≤ peak r
       least r run z =
           let t = crowd_of s law m n d in
-          let u = crowd-met s law m n r run z d t.0 t.1 in
+          let u = crowd_met s law m n r run z d t.0 t.1 in
           let low : length (waits (sent n ∷ u.0)) ≤ peak (sent n ∷ u.0) = peak_now (sent n ∷ u.0) in
           let on : peak (sent n ∷ u.0) ≤ peak r = peak_onward u.2 in
           let l : length t.0 ≤ length (waits (sent n ∷ u.0)) = u.3 in

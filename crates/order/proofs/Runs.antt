@@ -67,18 +67,18 @@ module _ (s : Scene) where
   carried e f k (x ∷ r) (fired run c) (inr h) = inr (carried e f k r run h)
 
   -- two messages that wait stand in the order in which they were sent
-  pub waits-ahead :
+  pub waits_ahead :
       (m n : ℕ) → ((r : List Happening) → Run s (sent n ∷ r) → Has (sent m) r) →
       (r : List Happening) → Run s r → Has (sent n) r → ¬ Has (received n) r → ¬ Has (received m) r → Ahead m n (waits r)
-  waits-ahead m n k [] run h gn gm = absurd h
-  waits-ahead m n k (sent x ∷ r) (fired run c) (inl p) gn gm =
+  waits_ahead m n k [] run h gn gm = absurd h
+  waits_ahead m n k (sent x ∷ r) (fired run c) (inl p) gn gm =
       let h : Has (sent m) r = k r (subst (λ y. Run s (y ∷ r)) (sym p) (fired run c)) in
       ahead_join m n (waits r) (x ∷ []) (waiting m r h (λ g. gm (inr g))) (inl (same_message p))
-  waits-ahead m n k (sent x ∷ r) (fired run c) (inr h) gn gm =
-      ahead_left m n (waits r) (x ∷ []) (waits-ahead m n k r run h (λ g. gn (inr g)) (λ g. gm (inr g)))
-  waits-ahead m n k (received x ∷ r) (fired run c) (inl p) gn gm = absurd (send_not_receipt p)
-  waits-ahead m n k (received x ∷ r) (fired run c) (inr h) gn gm =
-      ahead_without m n x (waits r) (λ e. gm (inl (ap received e))) (λ e. gn (inl (ap received e))) (waits-ahead m n k r run h (λ g. gn (inr g)) (λ g. gm (inr g)))
+  waits_ahead m n k (sent x ∷ r) (fired run c) (inr h) gn gm =
+      ahead_left m n (waits r) (x ∷ []) (waits_ahead m n k r run h (λ g. gn (inr g)) (λ g. gm (inr g)))
+  waits_ahead m n k (received x ∷ r) (fired run c) (inl p) gn gm = absurd (send_not_receipt p)
+  waits_ahead m n k (received x ∷ r) (fired run c) (inr h) gn gm =
+      ahead_without m n x (waits r) (λ e. gm (inl (ap received e))) (λ e. gn (inl (ap received e))) (waits_ahead m n k r run h (λ g. gn (inr g)) (λ g. gm (inr g)))
 
   -- a holder that was sent first is received first
   pub holder_first : (m n : ℕ) → ((r : List Happening) → Run s (sent n ∷ r) → Has (sent m) r) → T (s.holds m n) → (r : List Happening) → Run s r → MayReceive s n r → Has (received m) r
@@ -86,7 +86,7 @@ module _ (s : Scene) where
     where
       go : Dec (Has (received m) r) → Has (received m) r
       go (yes g) = g
-      go (no g) = absurd (c.free m (waits-ahead m n k r run c.after c.fresh g) h)
+      go (no g) = absurd (c.free m (waits_ahead m n k r run c.after c.fresh g) h)
 
   pub sound : {e f : Happening} → Enforced s e f → (r : List Happening) → Run s (f ∷ r) → Has e r
   sound (drawn {e} l) r (fired run c) = c.local e l

@@ -23,10 +23,10 @@ module _ (c : Content) (rule : Tag → Tag → Bool) (room : ℕ) (j : Judged c 
   back : (a b : ℕ) (r : List Happening) → Reversal c rule room a b r → Reverses (scene_of c rule room) (event_at c a) (event_at c b) r
   back a b r v = record { run = v.accepted; complete = (j.whole r).1 v.whole; reversed = v.reversed }
 
-  pub reported-kept :
+  pub reported_kept :
       (old : List ℕ) (answer : Result ℕ ReportRefusal) (new : List ℕ) →
       answer ≡ counted (races_of c rule room) old → new ≡ reported (races_of c rule room) old → Reported c rule room old answer new
-  reported-kept old answer new p q = record {
+  reported_kept old answer new p q = record {
     answered = p;
     written = q;
     rising = j.reported.rising;
@@ -36,14 +36,14 @@ module _ (c : Content) (rule : Tag → Tag → Bool) (room : ℕ) (j : Judged c 
     );
   }
 
-  pub scheduled-kept :
+  pub scheduled_kept :
       (a b : ℕ) (old : List ℕ) (answer : Result ℕ ScheduleRefusal) (new : List ℕ) →
       Schedules c rule room a b old answer new → Scheduled c rule room a b old answer new
-  scheduled-kept a b old (Ok count) new g =
+  scheduled_kept a b old (Ok count) new g =
       ((j.reported.exact a b).1 (g.pair, g.turns), g.counted, (order c rule room a b, reversal a b (reverse (order c rule room a b)) g.planned.reverses, g.written))
-  scheduled-kept a b old (Err NotPair) new g = (inl (λ h. g.0 ((j.reported.exact a b).0 h).0), g.1)
-  scheduled-kept a b old (Err NotReversible) new g = (inl (λ h. g.1 ((j.reported.exact a b).0 h).1), g.2)
-  scheduled-kept a b old (Err TooShort) new g = (inr g.2, g.3)
+  scheduled_kept a b old (Err NotPair) new g = (inl (λ h. g.0 ((j.reported.exact a b).0 h).0), g.1)
+  scheduled_kept a b old (Err NotReversible) new g = (inl (λ h. g.1 ((j.reported.exact a b).0 h).1), g.2)
+  scheduled_kept a b old (Err TooShort) new g = (inr g.2, g.3)
 
   pub recorded_kept : (fired : List EventId) → Run (scene_of c rule room) (past c fired) → Recorded c rule room fired
   recorded_kept fired run = record {

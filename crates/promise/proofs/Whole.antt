@@ -22,7 +22,7 @@ use Rattle.promise.specs.Rehearsed.{stage}
 use Rattle.promise.specs.Sessions.{Session}
 use Rattle.promise.specs.declared.calls.Call.{Call}
 use Rattle.promise.specs.declared.calls.Answer.{Answer}
-use Rattle.promise.proofs.Keeping.{reported-kept, scheduled-kept, recorded_kept, moved}
+use Rattle.promise.proofs.Keeping.{reported_kept, scheduled_kept, recorded_kept, moved}
 
 pub session_of :
     {g g' : Stage} {s s' t : State} {k k' l : ℕ} {calls : List Call} {answers : List Answer} →
@@ -46,20 +46,20 @@ module _ {D : Type 0} (G : Ghosts D) (chart : Chart) (d : D) (transitive : Trans
     room_is : (x : D) → x ≡ bench.delivery → G.room x ≡ G.room d
     room_is x e = ap G.room e ∙ same.room ∙ o.room
 
-    pub reported-of :
+    pub reported_of :
         (x : D) → x ≡ bench.delivery → (old : List ℕ) (answer : Result ℕ ReportRefusal) (new : List ℕ) →
         answer ≡ counted (races_of (content chart) (G.rule x) (G.room x)) old → new ≡ reported (races_of (content chart) (G.rule x) (G.room x)) old →
         Reported (content chart) (G.rule d) (G.room d) old answer new
-    reported-of x e old answer new p q =
-        reported-kept (content chart) (G.rule d) (G.room d) all old answer new
+    reported_of x e old answer new p q =
+        reported_kept (content chart) (G.rule d) (G.room d) all old answer new
         (moved (λ r n. answer ≡ counted (races_of (content chart) r n) old) (rule_is x e) (room_is x e) p)
         (moved (λ r n. new ≡ reported (races_of (content chart) r n) old) (rule_is x e) (room_is x e) q)
 
-    pub scheduled-of :
+    pub scheduled_of :
         (x : D) → x ≡ bench.delivery → (a b : ℕ) (old : List ℕ) (answer : Result ℕ ScheduleRefusal) (new : List ℕ) →
         Schedules (content chart) (G.rule x) (G.room x) a b old answer new → Scheduled (content chart) (G.rule d) (G.room d) a b old answer new
-    scheduled-of x e a b old answer new h =
-        scheduled-kept (content chart) (G.rule d) (G.room d) all a b old answer new
+    scheduled_of x e a b old answer new h =
+        scheduled_kept (content chart) (G.rule d) (G.room d) all a b old answer new
         (moved (λ r n. Schedules (content chart) r n a b old answer new) (rule_is x e) (room_is x e) h)
 
     pub recorded_of : Sound G (content chart) bench → Recorded (content chart) (G.rule d) (G.room d) (vec_items bench.fired)

@@ -12,7 +12,7 @@ use Rattle.order.proofs.Runs.{run_once, run_inside}
 use Rattle.order.proofs.Peaks.{narrowed, order_kept, order_back, crowd_kept, narrowed_laws, run_back, peak_room, least_peak}
 use Rattle.schedules.specs.Plan.{pass, leads, follows, stuck, early, late, prompt, kept, other, planned}
 use Rattle.schedules.specs.Planned.{Planned, Tells, Plans}
-use Rattle.schedules.proofs.Passes.{has_back, once_back, four-lengths}
+use Rattle.schedules.proofs.Passes.{has_back, once_back, four_lengths}
 use Rattle.schedules.proofs.Plans.{plan_reverses}
 
 plan_size : (s : Scene) (before : ℕ → ℕ → Bool) (m n : ℕ) → length (planned s before m n) ≡ 2 * s.messages
@@ -24,7 +24,7 @@ plan_size s before m n =
     let last = pass (other s before m n) (other s before m n) k in
     length-append first (second ++ (third ++ last))
     ∙ ap (λ v. length first + v) (length-append second (third ++ last) ∙ ap (λ v. length second + v) (length-append third last))
-    ∙ four-lengths (leads s before m n) (follows s before m n) (stuck s before m n) k
+    ∙ four_lengths (leads s before m n) (follows s before m n) (stuck s before m n) k
 
 module _ (s : Scene) (law : Laws s) (before : ℕ → ℕ → Bool) (tells : Tells s before) (a : Happening) (n : ℕ) (i : n < s.messages) (v : Reversible s a (received n)) where
   abbrev plan : List Happening

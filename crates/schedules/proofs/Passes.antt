@@ -120,16 +120,16 @@ module _ (a b c : ℕ → Bool) where
   shares true false t = refl
   shares false f t = refl
 
-  pub four-lengths :
+  pub four_lengths :
       (k : ℕ) →
       length (pass (λ h. a h && not (b h)) (λ h. a h && not (b h)) k)
       + (length (pass (λ h. a h && b h) (λ h. (a h && b h) && not (c h)) k)
       + (length (pass (λ h. false) (λ h. (a h && b h) && c h) k)
       + length (pass (λ h. not (a h)) (λ h. not (a h)) k)))
       ≡ 2 * k
-  four-lengths zero = refl
-  four-lengths (suc k) =
-      let ih = four-lengths k in
+  four_lengths zero = refl
+  four_lengths (suc k) =
+      let ih = four_lengths k in
       let p₁ = pass_length (λ h. a h && not (b h)) (λ h. a h && not (b h)) k in
       let p₂ = pass_length (λ h. a h && b h) (λ h. (a h && b h) && not (c h)) k in
       let p₃ = pass_length (λ h. false) (λ h. (a h && b h) && c h) k in

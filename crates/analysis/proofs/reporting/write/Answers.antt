@@ -1,7 +1,7 @@
 use Rattle.std.proofs.Common.{length, ap, arith}
 use Rattle.chart.specs.Charted.{content}
 use Rattle.analysis.specs.Races.{races_of}
-use Rattle.analysis.proofs.Telling.{small, length_front, record-more, records_all}
+use Rattle.analysis.proofs.Telling.{small, length_front, record_more, records_all}
 use Rattle.analysis.proofs.reporting.write.Goals as goal
 
 pub record_of-requires : goal.record_of-requires
@@ -24,7 +24,7 @@ loop-race-preserved g c =
     let room = g.D.Delivery.room c.args.delivery.now in
     let xs = races_of (content c.args.chart.now) rule room in
     let step = c.in-Some.ensures in
-    let w = record-more xs c.loop-race.walk.given c.next.new.self.given c.in-Some.race step.gives c.args.buffer.now c.loop-race.buffer c.put-place.new.buffer c.record_of.result c.loop-race.place c.put-place.result c.record_of.ensures c.loop-race.invariant.2 c.requires.room c.loop-race.invariant.1 c.put-place.ensures.pasted c.put-place.ensures.place in
+    let w = record_more xs c.loop-race.walk.given c.next.new.self.given c.in-Some.race step.gives c.args.buffer.now c.loop-race.buffer c.put-place.new.buffer c.record_of.result c.loop-race.place c.put-place.result c.record_of.ensures c.loop-race.invariant.2 c.requires.room c.loop-race.invariant.1 c.put-place.ensures.pasted c.put-place.ensures.place in
     (step.walks, w.0, w.1)
 
 pub returns : goal.returns

@@ -1,6 +1,6 @@
 use Rattle.std.proofs.Common.{◌∙◌}
 use Rattle.chart.specs.Charted.{content}
-use Rattle.promise.proofs.Whole.{session_of, stage_of_lem, reported-of, scheduled-of, recorded_of}
+use Rattle.promise.proofs.Whole.{session_of, stage_of_lem, reported_of, scheduled_of, recorded_of}
 use Rattle.promise.proofs.rehearsing.rehearse.Goals as goal
 
 pub returns-in-Ok-open : goal.returns-in-Ok-open
@@ -15,7 +15,7 @@ returns-in-Ok-open g c =
     let sound = p.sound (content chart) o.sound in
     record {
       session = session_of (stage_of_lem m chart d transitive some _ o) o.state (c.reserve.ensures.len ∙ c.args.slips.ok.0) (p.session (content chart) o.sound);
-      reported = reported-of m chart d transitive some _ _ o p.same _ c.delivery.ensures _ _ _ c.report-report.ensures.answer c.report-report.ensures.bytes;
-      scheduled = scheduled-of m chart d transitive some _ _ o p.same _ c.delivery-in-Ok-open.ensures _ _ _ _ _ c.schedule-schedule.ensures;
+      reported = reported_of m chart d transitive some _ _ o p.same _ c.delivery.ensures _ _ _ c.report-report.ensures.answer c.report-report.ensures.bytes;
+      scheduled = scheduled_of m chart d transitive some _ _ o p.same _ c.delivery-in-Ok-open.ensures _ _ _ _ _ c.schedule-schedule.ensures;
       recorded = recorded_of m chart d transitive some _ _ o p.same sound;
     }

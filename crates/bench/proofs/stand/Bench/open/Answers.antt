@@ -1,7 +1,7 @@
 use Rattle.std.proofs.Common.{refl}
 use Rattle.chart.specs.Charted.{content}
 use Rattle.order.proofs.Verdict.{chart_laid}
-use Rattle.bench.proofs.Standing.{same_state, cleared-sound, few_messages}
+use Rattle.bench.proofs.Standing.{same_state, cleared_sound, few_messages}
 use Rattle.bench.proofs.stand.Bench.open.Goals as goal
 
 pub returns : goal.returns
@@ -14,5 +14,5 @@ returns g c =
       room = emptied.room;
       layer = emptied.layer;
       state = same_state none emptied.empties refl;
-      sound = cleared-sound g.D.Delivery (content chart) _ emptied.starts (chart_laid chart) (few_messages chart) c.in-Ok.ensures none emptied.empties refl;
+      sound = cleared_sound g.D.Delivery (content chart) _ emptied.starts (chart_laid chart) (few_messages chart) c.in-Ok.ensures none emptied.empties refl;
     }
