@@ -11,7 +11,7 @@ use std::alloc::{AllocError, Global};
 use std::env;
 
 pub(crate) const USAGE: &str =
-    "usage: rehearse [--wiring bag|paired|mailbox|meeting] [--bound N] [--relay N:INSTANCE,INSTANCE..] [--fire EVENT,EVENT..] [FILE]
+    "usage: rehearse_wired [--wiring bag|paired|mailbox|meeting] [--bound N] [--relay N:INSTANCE,INSTANCE..] [--fire EVENT,EVENT..] [FILE]
 Shows the chart of FILE, or of standard input where FILE is left out or is -, sends its messages through the wiring, and
 lists the pairs of events that the wiring lets come the other way round.
   --wiring  bag, paired, mailbox or meeting; paired where it is left out
