@@ -1,8 +1,8 @@
 -- Counts over a list that grows at its end, and sums over the numbers below a bound.
-use Rattle.std.proofs.Common.{◌≡◌, ℕ, zero, suc, ◌+◌, ◌<◌, ◌≤◌, Bool, true, false, cond, ltb, List, [], ◌∷◌, ◌++◌, map, length, get_or, drop, count_by, sym, refl, ap, ◌∙◌, ⊎_elim, arith}
-use Rattle.std.proofs.lemmas.List.{at_drop_more, at_drop_all}
+use Rattle.std.proofs.Common.{◌≡◌, ℕ, zero, suc, ◌+◌, ◌<◌, ◌≤◌, Bool, true, false, cond, ◌||◌, ltb, List, [], ◌∷◌, ◌++◌, map, count_by, sym, refl, ap, ◌∙◌, ⊎_elim, inl, inr, arith}
+use Rattle.std.specs.List.{list_any}
 use Rattle.std.proofs.lemmas.List.Sums.{sum_by-cons, sum_by_push}
-use Rattle.std.proofs.lemmas.Bool.{cases_eq, lt-ltb}
+use Rattle.std.proofs.lemmas.Bool.{cases_Bool, cases_eq, lt-ltb}
 
 module _ {X : Type 0} (p : X → Bool) where
   pub count_yes : (x : X) (xs : List X) → p x ≡ true → count_by p (x ∷ xs) ≡ 1 + count_by p xs
@@ -43,16 +43,11 @@ pub sum_nothing : (k : ℕ) → sum_below (λ m. 0) k ≡ 0
 sum_nothing zero = refl
 sum_nothing (suc k) = omega (arith, sum_nothing k)
 
--- a walk that looks for an element that passes, seen through a map
-module _ {X Y : Type 0} (p : Y → Bool) (f : X → Y) (xs : List X) (i : ℕ) where
-  abbrev Any : List X → Bool
-  Any ys = ltb 0 (count_by p (map f ys))
-
-  pub any_goes_on : (d : X) → i < length xs → p (f (get_or xs i d)) ≡ false → Any (drop (i + 1) xs) ≡ Any (drop i xs)
-  any_goes_on d inside fails = sym (at_drop_more Any xs i d inside ∙ ap (ltb 0) (count_no p (f (get_or xs i d)) (map f (drop (i + 1) xs)) fails))
-
-  pub any_stops : (d : X) → i < length xs → p (f (get_or xs i d)) ≡ true → Any (drop i xs) ≡ true
-  any_stops d inside passes = at_drop_more Any xs i d inside ∙ lt-ltb 0 _ (omega (arith, count_yes p (f (get_or xs i d)) (map f (drop (i + 1) xs)) passes))
-
-  pub any_ends : length xs ≤ i → Any (drop i xs) ≡ false
-  any_ends beyond = at_drop_all Any xs i beyond
+-- whether an element passes, seen through a map
+pub any_counted : {X Y : Type 0} (q : X → Bool) (p : Y → Bool) (f : X → Y) → ((x : X) → q x ≡ p (f x)) → (xs : List X) → list_any q xs ≡ ltb 0 (count_by p (map f xs))
+any_counted q p f same [] = refl
+any_counted q p f same (x ∷ xs) =
+    elim (cases_Bool (p (f x))) [
+      | inl passes ↦ ap (λ b. b || list_any q xs) (same x ∙ passes) ∙ sym (lt-ltb 0 _ (omega (arith, count_yes p (f x) (map f xs) passes)))
+      | inr fails ↦ ap (λ b. b || list_any q xs) (same x ∙ fails) ∙ any_counted q p f same xs ∙ ap (ltb 0) (sym (count_no p (f x) (map f xs) fails))
+    ]

@@ -1,10 +1,9 @@
-pub mod Reading
-pub mod Letters
 pub mod Seeking
 pub mod Counting
 pub mod Numbering
 pub mod Additions
 pub mod Stored
 pub mod Invariants
+pub mod Equality
 pub mod Repeating
 pub mod Judging

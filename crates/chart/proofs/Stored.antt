@@ -1,13 +1,16 @@
 -- Stored parts that were read, as what they say.
-use Rattle.std.proofs.Common.{◌≡◌, ℕ, ◌<◌, List, [], ◌∷◌, ◌++◌, map, length, get_or, Some, vec_items, vec_len, Vec, sym, refl, ap, ◌∙◌, arith}
+use Rattle.std.proofs.Common.{◌≡◌, ℕ, ◌<◌, List, [], ◌∷◌, ◌++◌, map, length, get_or, vec_items, vec_len, Vec, sym, refl, ap, ◌∙◌, arith}
+use Rattle.std.specs.List.{position}
+use Rattle.std.specs.Str.{bytes_eq}
 use Rattle.std.specs.declared.alloc.Global.{Global}
 use Rattle.std.proofs.lemmas.List.{get_or-map, length-map, map_push}
 use Rattle.chart.specs.Words.{Text}
 use Rattle.chart.specs.Lookup.{seek}
 use Rattle.chart.specs.Names.{text_of}
 use Rattle.chart.specs.Content.{Happening, sent, message_of, message_names, Post, Inside}
-use Rattle.chart.proofs.Seeking.{seek_map, seek_inside}
+use Rattle.chart.proofs.Seeking.{seek_map, seek_position}
 use Rattle.chart.specs.Drafting.{with_instance, with_message, with_receipt}
+use Rattle.chart.specs.Kept.{kept}
 use Rattle.chart.specs.Shown.{title_of, happening, post, content_of}
 use Rattle.chart.proofs.Additions.{same_content}
 use Rattle.chart.specs.declared.names.Name.{Name}
@@ -31,18 +34,14 @@ module _ (p : Parts) where
   pub instance_count : length (content_of p).instances ≡ vec_len p.instances
   instance_count = length-map (vec_items p.instances) text_of ∙ sym p.instances.ok.0
 
-  pub seek_instance : (t : Text) → seek (λ x. x) t (content_of p).instances ≡ seek text_of t (vec_items p.instances)
-  seek_instance t = seek_map (λ x. x) text_of t (vec_items p.instances)
+  -- a lookup among what is stored
+  pub seek_instance : (t : Text) → position (λ n. bytes_eq (text_of n) t) (vec_items p.instances) ≡ seek (λ x. x) t (content_of p).instances
+  seek_instance t = sym (seek_map (λ x. x) text_of t (vec_items p.instances) ∙ seek_position text_of t (vec_items p.instances))
 
-  pub seek_message : (t : Text) → seek (λ x. x) t (message_names (content_of p)) ≡ seek (λ m. text_of m.name) t (vec_items p.messages)
-  seek_message t = seek_map (λ x. x) (λ (q : Post). q.name) t (content_of p).messages ∙ seek_map (λ (q : Post). q.name) post t (vec_items p.messages)
-
-  -- a place that was found is that of an instance, or of a message
-  pub found_instance : (t : Text) (xs : List Name) (i : ℕ) → Some i ≡ seek text_of t xs → xs ≡ vec_items p.instances → i < vec_len p.instances
-  found_instance t xs i e same = omega (arith, seek_inside text_of t xs i (sym e), ap length same, p.instances.ok.0)
-
-  pub found_message : (t : Text) (xs : List Message) (i : ℕ) → Some i ≡ seek (λ m. text_of m.name) t xs → xs ≡ vec_items p.messages → i < vec_len p.messages
-  found_message t xs i e same = omega (arith, seek_inside (λ m. text_of m.name) t xs i (sym e), ap length same, p.messages.ok.0)
+  pub seek_message : (t : Text) → position (λ m. bytes_eq (text_of m.name) t) (vec_items p.messages) ≡ seek (λ x. x) t (message_names (content_of p))
+  seek_message t =
+      sym (seek_map (λ x. x) (λ (q : Post). q.name) t (content_of p).messages ∙ seek_map (λ (q : Post). q.name) post t (vec_items p.messages)
+      ∙ seek_position (λ (m : Message). text_of m.name) t (vec_items p.messages))
 
   pub event_at : (i : ℕ) (x : Event) → i < vec_len p.events → x ≡ get_or (vec_items p.events) i x → (e : Happening) → happening x ≡ get_or (content_of p).events i e
   event_at i x l is e = mapped_at happening (vec_items p.events) i x (omega (arith, p.events.ok.0)) is e
@@ -58,23 +57,16 @@ module _ (p : Parts) where
       let same = ap message_of here in
       omega (arith, message_count)
 
-  -- the parts with another list of instances, or of messages and events
-  abbrev pub listing : Vec Name Global → Parts
-  listing v = record { title = p.title; instances = v; messages = p.messages; events = p.events }
-
-  abbrev pub lining : Vec Message Global → Vec Event Global → Parts
-  lining v w = record { title = p.title; instances = p.instances; messages = v; events = w }
-
   -- one element more, as what the parts say
-  pub with_instance_lem : (v : Vec Name Global) (n : Name) → vec_items v ≡ vec_items p.instances ++ n ∷ [] → content_of (listing v) ≡ with_instance (content_of p) (text_of n)
+  pub with_instance_lem : (v : Vec Name Global) (n : Name) → vec_items v ≡ vec_items p.instances ++ n ∷ [] → kept p.title v p.messages p.events ≡ with_instance (content_of p) (text_of n)
   with_instance_lem v n e = same_content (title_of p.title) (ap (map text_of) e ∙ map_push text_of (vec_items p.instances) n) refl refl
 
   pub with_message_lem : (v : Vec Message Global) (w : Vec Event Global) (m : Message) (k : MessageId) → vec_items v ≡ vec_items p.messages ++ m ∷ [] → vec_items w ≡ vec_items p.events ++ Out k ∷ [] → k.0 ≡ vec_len p.messages
-      → content_of (lining v w) ≡ with_message (content_of p) (text_of m.name) m.sender.0 m.receiver.0
+      → kept p.title p.instances v w ≡ with_message (content_of p) (text_of m.name) m.sender.0 m.receiver.0
   with_message_lem v w m k e f number =
       same_content (title_of p.title) refl
       (ap (map post) e ∙ map_push post (vec_items p.messages) m)
       (ap (map happening) f ∙ map_push happening (vec_items p.events) (Out k) ∙ ap (λ n. map happening (vec_items p.events) ++ sent n ∷ []) (number ∙ sym message_count))
 
-  pub with_receipt_lem : (w : Vec Event Global) (k : MessageId) → vec_items w ≡ vec_items p.events ++ In k ∷ [] → content_of (lining p.messages w) ≡ with_receipt (content_of p) k.0
+  pub with_receipt_lem : (w : Vec Event Global) (k : MessageId) → vec_items w ≡ vec_items p.events ++ In k ∷ [] → kept p.title p.instances p.messages w ≡ with_receipt (content_of p) k.0
   with_receipt_lem w k f = same_content (title_of p.title) refl refl (ap (map happening) f ∙ map_push happening (vec_items p.events) (In k))

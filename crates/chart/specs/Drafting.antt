@@ -1,5 +1,6 @@
 -- How a chart grows line by line, and why a line does not fit.
-use Rattle.std.specs.Prelude.{ℕ, zero, suc, Bool, true, cond, ◌&&◌, ltb, [], ◌∷◌, ◌++◌, length, Some, None, Ok, Err, count_by, Option, Result, ◌==◌, nat_le, nat_lt}
+use Rattle.std.specs.Prelude.{ℕ, Bool, cond, ltb, [], ◌∷◌, ◌++◌, length, Some, None, Ok, Err, count_by, Option, Result, ◌==◌, nat_le, nat_lt}
+use Rattle.std.specs.List.{list_all, range_with_len}
 use Rattle.chart.specs.Words.{Text}
 use Rattle.chart.specs.Content.{sent, received, is_received, Content, message_names}
 use Rattle.chart.specs.Lookup.{among}
@@ -40,8 +41,7 @@ times_received c m = count_by (is_received m) c.events
 
 -- whether each number below n passes
 abbrev pub all_below : (ℕ → Bool) → ℕ → Bool
-all_below p zero = true
-all_below p (suc n) = p n && all_below p n
+all_below p n = list_all p (range_with_len 0 n)
 
 abbrev pub all_received : Content → Bool
 all_received c = all_below (λ m. ltb 0 (times_received c m)) (length c.messages)

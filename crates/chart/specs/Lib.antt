@@ -4,6 +4,7 @@ pub mod Names
 pub mod Content
 pub mod Lookup
 pub mod Pieces
+pub mod Kept
 pub mod Shown
 pub mod Drafting
 pub mod Drafted

@@ -1,5 +1,6 @@
 -- Words and names, as lists of bytes.
-use Rattle.std.specs.Prelude.{ℕ, Bool, true, false, not, ◌&&◌, ◌||◌, List, [], ◌∷◌, length, codes, ◌==◌, nat_le}
+use Rattle.std.specs.Prelude.{ℕ, Bool, false, not, ◌&&◌, ◌||◌, List, [], ◌∷◌, length, codes, ◌==◌, nat_le}
+use Rattle.std.specs.List.{list_all, list_any}
 use Rattle.std.specs.Str.{bytes_eq}
 
 abbrev pub Text : Type 0
@@ -17,17 +18,17 @@ abbrev pub is_word_byte : ℕ → Bool
 is_word_byte b = is_letter b || (between 48 57 b || b == 95)
 
 abbrev pub all_of : (ℕ → Bool) → Text → Bool
-all_of p [] = true
-all_of p (b ∷ bs) = p b && all_of p bs
+all_of p t = list_all p t
 
 abbrev pub lettered : Text → Bool
 lettered [] = false
 lettered (b ∷ bs) = is_letter b
 
+-- the words that the text of a chart is made of
 abbrev pub reserved : Text → Bool
 reserved t =
-    bytes_eq t (codes "msc") || (bytes_eq t (codes "inst") || (bytes_eq t (codes "out") || (bytes_eq t (codes "in")
-    || (bytes_eq t (codes "to") || (bytes_eq t (codes "from") || bytes_eq t (codes "endmsc"))))))
+    list_any (λ w. bytes_eq w t)
+    (codes "msc" ∷ codes "inst" ∷ codes "out" ∷ codes "in" ∷ codes "to" ∷ codes "from" ∷ codes "endmsc" ∷ [])
 
 -- a word that may name something, if it is not too long
 abbrev pub name_like : Text → Bool

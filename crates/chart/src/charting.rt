@@ -1,6 +1,6 @@
 // An accepted chart, and what always holds of it.
 ghost use Rattle.std.specs.Prelude.{◌≡◌, ◌≤◌, is_some, vec_len, nat_lt};
-ghost use Rattle.chart.specs.Content.{InstancesApart, MessagesApart, AllJoin, Numbered, AllSent, AllReceived, SentOnce, SentFirst, Inside};
+ghost use Rattle.chart.specs.Content.{AllReceived, SentOnce, SentFirst, Inside};
 ghost use Rattle.chart.specs.Shown.{content_of};
 
 pub mod asking;
@@ -13,15 +13,7 @@ pub struct Chart {
     pub(crate) parts: Parts,
     // only a blank place has neither title nor instance
     ghost titled: { is_some parts.title ≡ nat_lt 0 (vec_len parts.instances) },
-    ghost few_instances: { vec_len parts.instances ≤ 16 },
-    ghost few_messages: { vec_len parts.messages ≤ 64 },
     ghost few_events: { vec_len parts.events ≤ 128 },
-    ghost instances_apart: { InstancesApart (content_of parts) },
-    ghost messages_apart: { MessagesApart (content_of parts) },
-    // the sender and the receiver of each message are two instances of the chart
-    ghost all_join: { AllJoin (content_of parts) },
-    ghost numbered: { Numbered (content_of parts) },
-    ghost all_sent: { AllSent (content_of parts) },
     // each message has exactly one out event and one in event, and the out event has the smaller number
     ghost sent_once: { SentOnce (content_of parts) },
     ghost received_once: { AllReceived (content_of parts) },

@@ -1,7 +1,5 @@
 // A chart that is being drawn, and what always holds of it.
 ghost use Rattle.std.specs.Prelude.{◌≡◌, ◌<◌, ◌≤◌, true, is_some, vec_len, vec_capacity};
-ghost use Rattle.chart.specs.Content.{InstancesApart, MessagesApart, AllJoin, Numbered, AllSent, NoneTwice};
-ghost use Rattle.chart.specs.Shown.{content_of};
 
 pub mod consulting;
 pub mod finishing;
@@ -24,25 +22,17 @@ pub struct Draft {
     ghost event_room: { 128 ≤ vec_capacity parts.events },
     ghost titled: { is_some parts.title ≡ true },
     ghost some_instance: { 0 < vec_len parts.instances },
-    ghost few_instances: { vec_len parts.instances ≤ 16 },
-    ghost few_messages: { vec_len parts.messages ≤ 64 },
-    ghost instances_apart: { InstancesApart (content_of parts) },
-    ghost messages_apart: { MessagesApart (content_of parts) },
-    ghost all_join: { AllJoin (content_of parts) },
-    ghost numbered: { Numbered (content_of parts) },
-    ghost all_sent: { AllSent (content_of parts) },
-    ghost none_twice: { NoneTwice (content_of parts) },
 }
 
 // Why a name does not join the instances.
-#[derive(Clone, Copy)]
+#[derive(Clone, Copy, PartialEq, Eq, Debug)]
 pub enum InstanceRefusal {
     TooMany,
     NamedTwice,
 }
 
 // Why a message is not sent.
-#[derive(Clone, Copy)]
+#[derive(Clone, Copy, PartialEq, Eq, Debug)]
 pub enum SendRefusal {
     NamedTwice,
     TooMany,
@@ -52,7 +42,7 @@ pub enum SendRefusal {
 }
 
 // Why a message is not received.
-#[derive(Clone, Copy)]
+#[derive(Clone, Copy, PartialEq, Eq, Debug)]
 pub enum ReceiveRefusal {
     NotSent,
     Again,

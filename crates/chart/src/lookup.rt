@@ -1,14 +1,14 @@
 // Finding what bears a name.
 ghost use Rattle.std.specs.Prelude.{◌≡◌, ℕ, List};
-ghost use Rattle.chart.specs.Lookup.{seek};
+ghost use Rattle.std.specs.List.{position};
+ghost use Rattle.std.specs.Str.{bytes_eq};
 ghost use Rattle.chart.specs.Names.{text_of};
 
 use super::names::Name;
 use super::pieces::Message;
-use super::words::same_text;
 
 // What bears a name.
-trait Named {
+pub(crate) trait Named {
     ghost called: { Self → List ℕ };
 
     fn called(&self) -> &[u8]
@@ -32,25 +32,8 @@ impl Named for Message {
 }
 
 // The place of the first item that is called this.
-fn find<T: Named>(items: &[T], text: &[u8]) -> Option<usize>
-    ensures { result ≡ seek T.Named.called text.now items.now }
+pub(crate) fn find<T: Named>(items: &[T], text: &[u8]) -> Option<usize>
+    ensures { result ≡ position (λ x. bytes_eq (T.Named.called x) text.now) items.now }
 {
-    for (i, item) in items.iter().enumerate() {
-        if same_text(item.called(), text) {
-            return Some(i);
-        }
-    }
-    None
-}
-
-pub(crate) fn find_name(names: &[Name], text: &[u8]) -> Option<usize>
-    ensures { result ≡ seek text_of text.now names.now }
-{
-    find(names, text)
-}
-
-pub(crate) fn find_message(messages: &[Message], text: &[u8]) -> Option<usize>
-    ensures { result ≡ seek (λ m. text_of m.name) text.now messages.now }
-{
-    find(messages, text)
+    items.iter().position(|item| item.called() == text)
 }

@@ -2,7 +2,8 @@
 ghost use Rattle.std.specs.Prelude.{◌≡◌, Bool};
 ghost use Rattle.chart.specs.Repeats.{FirstRepeat};
 
-// Elements of which any two are the same or not.
+// Elements of which any two are the same or not. A trait of its own, since `PartialEq` has laws and one meaning for a type,
+// and would ask more of callers: records of a schedule are the same if their events are.
 pub trait Same {
     ghost same: { Self → Self → Bool };
 
@@ -14,11 +15,10 @@ pub trait Same {
 pub fn first_repeat<T: Same>(items: &[T]) -> Option<usize>
     ensures { FirstRepeat T.Same.same items.now result }
 {
-    for k in 0..items.len() {
-        for j in 0..k {
-            if items[j].is_same(&items[k]) {
-                return Some(k);
-            }
+    // A loop: of `position` over `enumerate` it is not found that no earlier place repeats one.
+    for (k, item) in items.iter().enumerate() {
+        if items[..k].iter().any(|earlier| earlier.is_same(item)) {
+            return Some(k);
         }
     }
     None

@@ -11,7 +11,7 @@ use super::Chart;
 use std::alloc::Global;
 
 // An event as it is drawn.
-#[derive(Clone, Copy)]
+#[derive(Clone, Copy, PartialEq, Eq, Debug)]
 pub struct Line {
     pub instance: InstanceId,
     pub side: Side,
@@ -61,24 +61,15 @@ impl Chart {
     pub fn line(&self, number: EventId) -> Option<Line>
         ensures { result ≡ line_of (content self.now) number.0 }
     {
-        let place = number.0 as usize;
-        if place >= self.parts.events.len() {
-            return None;
-        }
-        let event = self.parts.events[place];
-        let ends = &self.parts.messages[event.message().0 as usize];
-        match event {
-            Event::Out(message) => Some(Line {
-                instance: ends.sender,
-                side: Side::Out,
-                message,
-            }),
-            Event::In(message) => Some(Line {
-                instance: ends.receiver,
-                side: Side::In,
-                message,
-            }),
-        }
+        let event = self.parts.events.get(number.0 as usize)?;
+        let side = event.side();
+        let message = event.message();
+        let ends = &self.parts.messages[message.0 as usize];
+        Some(Line {
+            instance: ends.instance_at(side),
+            side,
+            message,
+        })
     }
 
     // Where the chart's memory comes from.

@@ -1,13 +1,12 @@
 // What a draft has so far.
-ghost use Rattle.std.specs.Prelude.{◌≡◌, map, length, IfSome, count_by, nat_lt};
+ghost use Rattle.std.specs.Prelude.{◌≡◌, length, IfSome, nat_lt};
 ghost use Rattle.std.specs.Option.{option_map};
-ghost use Rattle.chart.specs.Content.{is_received, message_names, sender_of, receiver_of};
+ghost use Rattle.chart.specs.Content.{message_names, sender_of, receiver_of};
 ghost use Rattle.chart.specs.Drafted.{drafted};
 ghost use Rattle.chart.specs.Drafting.{times_received, all_received};
 ghost use Rattle.chart.specs.Lookup.{seek};
-ghost use Rattle.chart.specs.Shown.{happening};
 
-use super::super::lookup::{find_message, find_name};
+use super::super::lookup::find;
 use super::super::numbers::{InstanceId, MessageId};
 use super::super::pieces::Event;
 use super::Draft;
@@ -20,34 +19,11 @@ pub struct Sent {
     pub receiver: InstanceId,
 }
 
-fn receives(event: Event, message: MessageId) -> bool
-    ensures { result ≡ is_received message.0 (happening event) }
-{
-    match event {
-        Event::Out(_) => false,
-        Event::In(received) => received == message,
-    }
-}
-
-fn any_receives(events: &[Event], message: MessageId) -> bool
-    ensures { result ≡ nat_lt 0 (count_by (is_received message.0) (map happening events.now)) }
-{
-    for event in events {
-        if receives(*event, message) {
-            return true;
-        }
-    }
-    false
-}
-
 impl Draft {
     pub fn find_instance(&self, text: &[u8]) -> Option<InstanceId>
         ensures { option_map (λ i. i.0) result ≡ seek (λ x. x) text.now (drafted self.now).instances }
     {
-        let Some(place) = find_name(&self.parts.instances, text) else {
-            return None;
-        };
-        Some(InstanceId(place as u16))
+        find(&self.parts.instances, text).map(|place| InstanceId(place as u16))
     }
 
     // The message of this name.
@@ -56,9 +32,7 @@ impl Draft {
         ensures sender { IfSome result (λ p. p.sender.0 ≡ sender_of (drafted self.now) p.number.0) }
         ensures receiver { IfSome result (λ p. p.receiver.0 ≡ receiver_of (drafted self.now) p.number.0) }
     {
-        let Some(place) = find_message(&self.parts.messages, text) else {
-            return None;
-        };
+        let place = find(&self.parts.messages, text)?;
         let message = &self.parts.messages[place];
         Some(Sent {
             number: MessageId(place as u16),
@@ -76,17 +50,12 @@ impl Draft {
     pub fn is_received(&self, message: MessageId) -> bool
         ensures { result ≡ nat_lt 0 (times_received (drafted self.now) message.0) }
     {
-        any_receives(&self.parts.events, message)
+        self.parts.events.contains(&Event::In(message))
     }
 
     pub(crate) fn all_received(&self) -> bool
         ensures { result ≡ all_received (drafted self.now) }
     {
-        for message in 0..self.message_count() {
-            if !self.is_received(MessageId(message as u16)) {
-                return false;
-            }
-        }
-        true
+        (0..self.message_count() as u16).all(|message| self.is_received(MessageId(message)))
     }
 }

@@ -13,6 +13,7 @@ impl Draft {
     pub fn finish(self) -> Option<Chart>
         ensures { option_map content result ≡ finished (drafted self) }
     {
+        // Tested before the parts move: the chart's invariant rests on it, and a closure under `then` has no proof of it.
         if !self.all_received() {
             return None;
         }

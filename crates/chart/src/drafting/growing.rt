@@ -1,14 +1,9 @@
 // How a draft grows.
-ghost use Rattle.std.specs.Prelude.{◌≡◌, ◌<◌, length, IfOk, count_by, MatchResult, OnErr};
-ghost use Rattle.std.specs.Option.{option_map};
-ghost use Rattle.chart.specs.Content.{is_received};
+ghost use Rattle.std.specs.Prelude.{◌≡◌, length, IfOk, MatchResult, OnErr};
 ghost use Rattle.chart.specs.Drafted.{drafted};
-ghost use Rattle.chart.specs.Drafting.{begun, listed, dispatched, delivered, leaving, times_received};
-ghost use Rattle.chart.specs.Lookup.{seek};
+ghost use Rattle.chart.specs.Drafting.{begun, listed, dispatched, delivered, leaving};
 ghost use Rattle.chart.specs.Names.{text_of};
-ghost use Rattle.chart.specs.Shown.{happening};
 
-use super::super::lookup::find_message;
 use super::super::names::Name;
 use super::super::numbers::{InstanceId, MessageId};
 use super::super::pieces::{Event, Message, Parts};
@@ -41,12 +36,13 @@ impl Draft {
         ensures answer { leaving result (drafted self.new) ≡ listed (drafted self.old) (text_of name) }
         ensures unchanged { OnErr result (drafted self.new ≡ drafted self.old) }
     {
-        if self.parts.instances.len() >= INSTANCE_LIMIT {
+        let instances = &mut self.parts.instances;
+        if instances.len() >= INSTANCE_LIMIT {
             return Err(InstanceRefusal::TooMany);
         }
-        self.parts.instances.push_reserved(name);
-        if first_repeat(&self.parts.instances).is_some() {
-            let _ = self.parts.instances.pop();
+        instances.push_reserved(name);
+        if first_repeat(instances).is_some() {
+            let _ = instances.pop();
             return Err(InstanceRefusal::NamedTwice);
         }
         Ok(())
@@ -62,7 +58,7 @@ impl Draft {
         ensures answer { leaving result (drafted self.new) ≡ dispatched (drafted self.old) (text_of name) sender.0 receiver.0 }
         ensures number { MatchResult result (λ m. m.0 ≡ length (drafted self.old).messages) (λ _. drafted self.new ≡ drafted self.old) }
     {
-        if find_message(&self.parts.messages, name.text()).is_some() {
+        if self.find_message(name.text()).is_some() {
             return Err(SendRefusal::NamedTwice);
         }
         let count = self.parts.messages.len();
@@ -79,12 +75,17 @@ impl Draft {
             return Err(SendRefusal::ToItself);
         }
         let message = MessageId(count as u16);
-        self.parts.messages.push_reserved(Message {
+        let Parts {
+            messages,
+            events,
+            ..
+        } = &mut self.parts;
+        messages.push_reserved(Message {
             name,
             sender,
             receiver,
         });
-        self.parts.events.push_reserved(Event::Out(message));
+        events.push_reserved(Event::Out(message));
         Ok(message)
     }
 

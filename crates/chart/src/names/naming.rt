@@ -4,7 +4,7 @@ ghost use Rattle.std.specs.Str.{bytes_eq};
 ghost use Rattle.chart.specs.Names.{text_of, name_of, judged};
 
 use super::super::repeats::Same;
-use super::super::words::{is_name_like, same_text};
+use super::super::words::is_name_like;
 use super::{NAME_LIMIT, Name, NameRefusal};
 
 impl Name {
@@ -37,6 +37,6 @@ impl Same for Name {
     ghost same = { λ a b. bytes_eq (text_of a) (text_of b) };
 
     fn is_same(&self, other: &Self) -> bool {
-        same_text(self.text(), other.text())
+        self == other
     }
 }
