@@ -1,5 +1,6 @@
 -- Waiting parcels, as a list in the order in which they were accepted.
-use Rattle.std.specs.Prelude.{ℕ, Bool, true, false, cond, not, ◌&&◌, ◌||◌, List, [], ◌∷◌, Some, None, Option, ◌==◌}
+use Rattle.std.specs.Prelude.{ℕ, Bool, true, cond, not, ◌&&◌, List, [], ◌∷◌, Some, None, Option, ◌==◌}
+use Rattle.std.specs.List.{list_any, find}
 use Rattle.chart.specs.declared.numbers.MessageId.{MessageId}
 use Rattle.delivery.specs.declared.parcel.Tag.{Tag}
 use Rattle.delivery.specs.declared.parcel.Parcel.{Parcel}
@@ -8,10 +9,13 @@ use Rattle.delivery.specs.declared.parcel.Parcel.{Parcel}
 abbrev pub message_limit : ℕ
 message_limit = 64
 
+-- the parcel is that of message n
+abbrev pub is_of : ℕ → Parcel → Bool
+is_of n p = p.message.0 == n
+
 -- message n waits
 abbrev pub waits_in : ℕ → List Parcel → Bool
-waits_in n [] = false
-waits_in n (p ∷ w) = p.message.0 == n || waits_in n w
+waits_in n w = list_any (is_of n) w
 
 -- no message waits twice
 abbrev pub distinct : List Parcel → Bool
@@ -20,8 +24,7 @@ distinct (p ∷ w) = not (waits_in p.message.0 w) && distinct w
 
 -- the waiting parcel of message n
 abbrev pub parcel_of : ℕ → List Parcel → Option Parcel
-parcel_of n [] = None
-parcel_of n (p ∷ w) = cond (p.message.0 == n) (Some p) (parcel_of n w)
+parcel_of n w = find (is_of n) w
 
 -- the parcels before that of message n
 abbrev pub ahead_of : ℕ → List Parcel → List Parcel

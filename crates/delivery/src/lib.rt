@@ -10,4 +10,4 @@ pub mod station;
 pub use meaning::Delivery;
 pub use parcel::{Parcel, Tag};
 pub use refusal::{Accepted, PutRefusal, TakeRefusal};
-pub use station::Station;
+pub use station::{NoStation, Station};

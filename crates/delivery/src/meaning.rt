@@ -25,6 +25,8 @@ pub trait Delivery {
     // the layer that a refusal on this ground names while so many parcels wait; None where it may name any
     ghost layer: { Self → ℕ → Ground → Option ℕ } = { λ _ _ _. None };
 
+    // That rule, room and layer stay as they are is said thrice, by a clause each: one clause of all three would be no plainer,
+    // since whoever keeps or uses it proves and names them one by one.
     fn put(&mut self, parcel: Parcel) -> Result<Accepted, PutRefusal>
         ensures rule { rule self.new ≡ rule self.old }
         ensures room { room self.new ≡ room self.old }

@@ -1,8 +1,8 @@
 -- How refusals come up through a layer, and which layers they name.
-use Rattle.std.specs.Prelude.{ℕ, ◌+◌, min, Bool, cond, not, ◌&&◌, List, length, Some, Ok, Err, Option, Result, nat_le, nat_lt}
+use Rattle.std.specs.Prelude.{ℕ, ◌+◌, min, Bool, cond, not, ◌&&◌, List, length, Some, Option, Result, nat_le, nat_lt}
 use Rattle.std.specs.Option.{option_map}
+use Rattle.std.specs.Result.{result_map_both}
 use Rattle.delivery.specs.declared.parcel.Parcel.{Parcel}
-use Rattle.delivery.specs.declared.refusal.Accepted.{Accepted}
 use Rattle.delivery.specs.declared.refusal.PutRefusal.{PutRefusal}
 use Rattle.delivery.specs.declared.refusal.PutRefusal.TheVariants.{Far, Double, Full}
 use Rattle.delivery.specs.declared.refusal.TakeRefusal.{TakeRefusal}
@@ -24,13 +24,8 @@ take_deeper (Absent l) = Absent (deeper l)
 take_deeper (Held by l) = Held by (deeper l)
 
 -- what the delivery below answers, told one layer higher
-abbrev pub put_told : Result Accepted PutRefusal → Result Accepted PutRefusal
-put_told (Ok a) = Ok a
-put_told (Err e) = Err (put_deeper e)
-
-abbrev pub take_told : Result Parcel TakeRefusal → Result Parcel TakeRefusal
-take_told (Ok p) = Ok p
-take_told (Err e) = Err (take_deeper e)
+abbrev pub told : {T R : Type 0} → (R → R) → Result T R → Result T R
+told higher answer = result_map_both (λ x. x) higher answer
 
 -- the layer that the delivery below names, counted from one layer higher
 abbrev pub layer_below : (Ground → Option ℕ) → Ground → Option ℕ

@@ -1,5 +1,6 @@
 -- Tags as given above a relay, and as shown below it.
-use Rattle.std.specs.Prelude.{◌≡◌, ℕ, Bool, false, cond, ◌&&◌, List, [], ◌∷◌, Ok, Err, Result, nat_lt, slice_index_or}
+use Rattle.std.specs.Prelude.{◌≡◌, ℕ, Bool, false, cond, ◌&&◌, List, [], ◌∷◌, map, Result, nat_lt, slice_index_or}
+use Rattle.std.specs.Result.{result_map_both}
 use Rattle.delivery.specs.declared.parcel.Tag.{Tag}
 use Rattle.delivery.specs.declared.parcel.Parcel.{Parcel}
 use Rattle.delivery.specs.declared.refusal.TakeRefusal.{TakeRefusal}
@@ -22,13 +23,11 @@ lifted given p = record { message = p.message; tag = given_tag given p }
 
 -- what a take answers above: the parcel as it was given
 abbrev pub take_lifted : List Tag → Result Parcel TakeRefusal → Result Parcel TakeRefusal
-take_lifted given (Ok p) = Ok (lifted given p)
-take_lifted given (Err e) = Err e
+take_lifted given answer = result_map_both (lifted given) (λ e. e) answer
 
 -- the waiting parcels as they were given
 abbrev pub as_given : List Tag → List Parcel → List Parcel
-as_given given [] = []
-as_given given (p ∷ w) = lifted given p ∷ as_given given w
+as_given given w = map (lifted given) w
 
 -- each parcel waits below with the tag that its given one is shown by
 abbrev pub Agree : (Tag → Tag) → List Tag → List Parcel → Type 0

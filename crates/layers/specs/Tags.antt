@@ -1,15 +1,15 @@
 -- Waiting parcels with the tags as given above: as many wait, of the same messages.
-use Rattle.std.specs.Prelude.{◌≡◌, ℕ, suc, not, ◌&&◌, ◌||◌, List, [], ◌∷◌, length, ◌==◌, refl}
+use Rattle.std.specs.Prelude.{◌≡◌, ℕ, not, ◌&&◌, ◌||◌, List, [], ◌∷◌, length, ◌==◌, refl}
 use Rattle.std.proofs.Common.{ap, ◌∙◌}
+use Rattle.std.proofs.lemmas.List.{length-map}
 use Rattle.delivery.specs.declared.parcel.Parcel.{Parcel}
 use Rattle.delivery.specs.declared.parcel.Tag.{Tag}
 use Rattle.delivery.specs.Waiting.{waits_in, distinct}
-use Rattle.layers.specs.Shown.{as_given}
+use Rattle.layers.specs.Shown.{lifted, as_given}
 
 module _ (given : List Tag) where
   pub length_as_given : (w : List Parcel) → length (as_given given w) ≡ length w
-  length_as_given [] = refl
-  length_as_given (p ∷ w) = ap suc (length_as_given w)
+  length_as_given w = length-map w (lifted given)
 
   pub waits_as_given : (n : ℕ) (w : List Parcel) → waits_in n (as_given given w) ≡ waits_in n w
   waits_as_given n [] = refl

@@ -2,10 +2,10 @@
 ghost use Rattle.std.specs.Prelude.{◌≡◌, ◌≤◌, min, length};
 ghost use Rattle.layers.specs.Layers.{bound_layer, shut_at};
 ghost use Rattle.layers.specs.Made.{BoundMade};
-ghost use Rattle.std.proofs.Common.{rules, arith};
+ghost use Rattle.std.proofs.Common.{arith};
 
 use crate::bound::Bound;
-use crate::deeper::{put_told, take_told};
+use crate::deeper::told;
 use crate::unbuilt::Unbuilt;
 use chart::numbers::MessageId;
 use delivery::limits::MESSAGE_LIMIT;
@@ -18,7 +18,7 @@ impl<D: Delivery> Bound<D> {
     pub fn new(below: D, number: u16) -> Result<Bound<D>, Unbuilt<D>>
         ensures { BoundMade below number result }
     {
-        if number < 1 || number > MESSAGE_LIMIT {
+        if !(1..=MESSAGE_LIMIT).contains(&number) {
             return Err(Unbuilt::BoundNumber { number, below });
         }
         Ok(Bound {
@@ -31,13 +31,13 @@ impl<D: Delivery> Bound<D> {
     pub fn into_below(self) -> D
         ensures { result ≡ self.below }
     {
-        let Bound { below, limit: _ } = self;
+        let Bound { below, .. } = self;
         below
     }
 
     // Whether the bound itself refuses a parcel of this message as full. Far and double go before full, and are told from below.
     fn shut(&self, message: MessageId) -> bool
-        ensures { D.Delivery.started self.now.below → result ≡ shut_at self.now.limit message.0 (D.Delivery.waiting self.now.below) }
+        ensures { D.started self.now.below → result ≡ shut_at self.now.limit message.0 (D.waiting self.now.below) }
     {
         message.0 < MESSAGE_LIMIT
             && !self.below.waits(message)
@@ -46,35 +46,37 @@ impl<D: Delivery> Bound<D> {
 }
 
 impl<D: Delivery> Delivery for Bound<D> {
-    ghost waiting = { λ s. D.Delivery.waiting s.below };
+    ghost waiting = { λ s. D.waiting s.below };
 
-    ghost rule = { λ s. D.Delivery.rule s.below };
+    ghost rule = { λ s. D.rule s.below };
 
-    ghost room = { λ s. min s.limit (D.Delivery.room s.below) };
+    ghost room = { λ s. min s.limit (D.room s.below) };
 
-    ghost started = { λ s. D.Delivery.started s.below × length (D.Delivery.waiting s.below) ≤ s.limit };
+    ghost started = { λ s. D.started s.below × length (D.waiting s.below) ≤ s.limit };
 
-    ghost layer = { λ s count. bound_layer s.limit count (D.Delivery.layer s.below count) };
+    ghost layer = { λ s count. bound_layer s.limit count (D.layer s.below count) };
 
-    ghost transitive = { first_of (Prim.search rules, Prim.grind (arith, Self.row.coded.inj)) };
+    ghost transitive = { λ s. D.transitive s.below };
 
-    ghost some = { first_of (Prim.search rules, Prim.grind (arith, Self.row.coded.inj)) };
+    ghost some = { λ s. Prim.omega (arith, D.some s.below, s.some) };
 
-    ghost few = { first_of (Prim.search rules, Prim.grind (arith, Self.row.coded.inj)) };
+    ghost few = { λ s. Prim.omega (arith, D.few s.below) };
 
-    ghost fits = { first_of (Prim.search rules, Prim.grind (arith, Self.row.coded.inj)) };
+    ghost fits = { λ s a. Prim.omega (arith, D.fits s.below a.0, a.1) };
 
-    ghost once = { first_of (Prim.search rules, Prim.grind (arith, Self.row.coded.inj)) };
+    ghost once = { λ s a. D.once s.below a.0 };
 
+    #[tactic(auto, using(crate::proofs::Bounds::bound_puts))]
     fn put(&mut self, parcel: Parcel) -> Result<Accepted, PutRefusal> {
         if self.shut(parcel.message) {
             return Err(PutRefusal::Full { layer: 0 });
         }
-        put_told(self.below.put(parcel))
+        told(self.below.put(parcel))
     }
 
+    #[tactic(auto, using(crate::proofs::Bounds::bound_takes))]
     fn take(&mut self, message: MessageId) -> Result<Parcel, TakeRefusal> {
-        take_told(self.below.take(message))
+        told(self.below.take(message))
     }
 
     fn empty(&mut self) {

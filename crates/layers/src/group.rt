@@ -1,11 +1,11 @@
 // Sets of instances.
-ghost use Rattle.std.specs.Prelude.{◌≡◌, ◌≤◌, true, set, MatchOption, slice_set};
+ghost use Rattle.std.specs.Prelude.{◌≡◌, ◌≤◌, true, MatchOption, slice_set};
 ghost use Rattle.layers.specs.Shown.{in_group};
 
 use chart::numbers::InstanceId;
 use delivery::station::Station;
 
-// A set of the instances 0 to 15: whether each is in it, by number.
+// A set of the instances 0 to 15: whether each is in it, by number. A fixed table, so that making a layer takes no memory.
 #[derive(Clone, Copy)]
 pub struct Group(pub [bool; 16]);
 
@@ -16,11 +16,12 @@ impl Group {
     pub fn with(self, instance: InstanceId) -> Option<Group>
         ensures { MatchOption result (16 ≤ instance.0) (λ g. g.0 ≡ slice_set self.0 instance.0 true) }
     {
+        let mut members = self.0;
         let i = instance.0 as usize;
-        if i >= 16 {
+        if i >= members.len() {
             return None;
         }
-        let mut members = self.0;
+        // by index, since of a write through an array's `get_mut` a proof knows no element
         members[i] = true;
         Some(Group(members))
     }
@@ -28,7 +29,7 @@ impl Group {
     pub(crate) fn has(&self, station: Station) -> bool
         ensures { result ≡ in_group self.now.0 station.number }
     {
-        let i = station.number() as usize;
-        i < 16 && self.0[i]
+        let member = self.0.get(u16::from(station) as usize);
+        member.copied().unwrap_or(false)
     }
 }

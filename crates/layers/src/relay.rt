@@ -18,7 +18,7 @@ pub struct Relay<D> {
     pub(crate) below: D,
     pub(crate) group: Group,
     pub(crate) station: Station,
-    // the tag that each message was last put with, since below only the shown tag waits
+    // the tag that each message was last put with, since below only the shown tag waits; a fixed table, so that making a layer takes no memory
     pub(crate) given: [Tag; MESSAGE_PLACES],
     ghost low: { 16 ≤ station.number },
     ghost high: { station.number ≤ 31 },

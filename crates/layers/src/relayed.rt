@@ -1,12 +1,12 @@
 // A relay over any delivery.
 ghost use Rattle.std.specs.Prelude.{◌≡◌};
-ghost use Rattle.std.proofs.Common.{◌∙◌, rules, arith};
+ghost use Rattle.std.proofs.Common.{◌∙◌};
 ghost use Rattle.layers.specs.Layers.{layer_below};
 ghost use Rattle.layers.specs.Made.{RelayMade};
-ghost use Rattle.layers.specs.Shown.{shown, given_tag, take_lifted, as_given, Agree};
+ghost use Rattle.layers.specs.Shown.{shown, lifted, as_given, Agree};
 ghost use Rattle.layers.specs.Tags.{length_as_given, distinct_as_given};
 
-use crate::deeper::{put_deeper, take_told};
+use crate::deeper::told;
 use crate::group::Group;
 use crate::relay::{GREATEST_RELAY, LEAST_RELAY, Relay};
 use crate::unbuilt::Unbuilt;
@@ -22,8 +22,8 @@ impl<D: Delivery> Relay<D> {
     pub fn new(below: D, group: Group, number: u16) -> Result<Relay<D>, Unbuilt<D>>
         ensures { RelayMade below group number result }
     {
-        match Station::new(number) {
-            Some(station) if number >= LEAST_RELAY && number <= GREATEST_RELAY => {
+        match Station::try_from(number) {
+            Ok(station) if (LEAST_RELAY..=GREATEST_RELAY).contains(&number) => {
                 let blank = Tag {
                     sender: station,
                     receiver: station,
@@ -43,12 +43,7 @@ impl<D: Delivery> Relay<D> {
     pub fn into_below(self) -> D
         ensures { result ≡ self.below }
     {
-        let Relay {
-            below,
-            group: _,
-            station: _,
-            given: _,
-        } = self;
+        let Relay { below, .. } = self;
         below
     }
 
@@ -66,83 +61,66 @@ impl<D: Delivery> Relay<D> {
         }
     }
 
-    // The tag that a parcel from below was put with above.
-    fn given_to(&self, parcel: Parcel) -> Tag
-        ensures { result ≡ given_tag self.now.given parcel }
+    // A parcel from below, with the tag that it was put with above.
+    fn lift(&self, parcel: Parcel) -> Parcel
+        ensures { result ≡ lifted self.now.given parcel }
     {
-        let i = parcel.message.0 as usize;
-        if i < MESSAGE_PLACES {
-            self.given[i]
-        } else {
-            parcel.tag
-        }
-    }
-
-    // What a take answers above: the parcel with the tag that it was put with.
-    fn lift(&self, answer: Result<Parcel, TakeRefusal>) -> Result<Parcel, TakeRefusal>
-        ensures { result ≡ take_lifted self.now.given answer }
-    {
-        match answer {
-            Ok(parcel) => Ok(Parcel {
-                message: parcel.message,
-                tag: self.given_to(parcel),
-            }),
-            Err(refusal) => Err(refusal),
+        let given = self.given.get(parcel.message.0 as usize);
+        Parcel {
+            tag: given.copied().unwrap_or(parcel.tag),
+            ..parcel
         }
     }
 }
 
 impl<D: Delivery> Delivery for Relay<D> {
-    ghost waiting = { λ s. as_given s.given (D.Delivery.waiting s.below) };
+    ghost waiting = { λ s. as_given s.given (D.waiting s.below) };
 
-    ghost rule = { λ s a b. D.Delivery.rule s.below (shown s.group.0 s.station a) (shown s.group.0 s.station b) };
+    ghost rule = { λ s a b. D.rule s.below (shown s.group.0 s.station a) (shown s.group.0 s.station b) };
 
-    ghost room = { λ s. D.Delivery.room s.below };
+    ghost room = { λ s. D.room s.below };
 
-    ghost started = { λ s. D.Delivery.started s.below × Agree (shown s.group.0 s.station) s.given (D.Delivery.waiting s.below) };
+    ghost started = { λ s. D.started s.below × Agree (shown s.group.0 s.station) s.given (D.waiting s.below) };
 
-    ghost layer = { λ s count. layer_below (D.Delivery.layer s.below count) };
+    ghost layer = { λ s count. layer_below (D.layer s.below count) };
 
-    ghost transitive = { first_of (Prim.search rules, Prim.grind (arith, Self.row.coded.inj)) };
+    ghost transitive = { λ s _ _ _. D.transitive s.below _ _ _ };
 
-    ghost some = { first_of (Prim.search rules, Prim.grind (arith, Self.row.coded.inj)) };
+    ghost some = { λ s. D.some s.below };
 
-    ghost few = { first_of (Prim.search rules, Prim.grind (arith, Self.row.coded.inj)) };
+    ghost few = { λ s. D.few s.below };
 
-    ghost fits = { λ s a. rw (length_as_given s.given (D.Delivery.waiting s.below)) (D.Delivery.fits s.below a.0) };
+    ghost fits = { λ s a. rw (length_as_given s.given (D.waiting s.below)) (D.fits s.below a.0) };
 
-    ghost once = { λ s a. distinct_as_given s.given (D.Delivery.waiting s.below) ∙ D.Delivery.once s.below a.0 };
+    ghost once = { λ s a. distinct_as_given s.given (D.waiting s.below) ∙ D.once s.below a.0 };
 
+    #[tactic(auto, using(crate::proofs::Relays::relay_refuse))]
     fn put(&mut self, parcel: Parcel) -> Result<Accepted, PutRefusal> {
         let tag = self.show(parcel.tag);
-        match self.below.put(Parcel {
-            message: parcel.message,
-            tag,
-        }) {
-            Ok(accepted) => {
-                let i = parcel.message.0 as usize;
-                if i < MESSAGE_PLACES {
-                    self.given[i] = parcel.tag;
-                }
-                Ok(accepted)
-            }
-            Err(refusal) => Err(put_deeper(refusal)),
+        let accepted = told(self.below.put(Parcel { tag, ..parcel }))?;
+        let i = parcel.message.0 as usize;
+        if i < MESSAGE_PLACES {
+            // by index, since of a write through an array's `get_mut` a proof knows no element
+            self.given[i] = parcel.tag;
         }
+        Ok(accepted)
     }
 
+    #[tactic(auto, using(crate::proofs::Relays::relay_takes))]
     fn take(&mut self, message: MessageId) -> Result<Parcel, TakeRefusal> {
-        let answer = take_told(self.below.take(message));
-        self.lift(answer)
+        told(self.below.take(message)).map(|parcel| self.lift(parcel))
     }
 
     fn empty(&mut self) {
         self.below.empty();
     }
 
+    #[tactic(auto, using(crate::specs::Tags::length_as_given))]
     fn count(&self) -> usize {
         self.below.count()
     }
 
+    #[tactic(auto, using(crate::specs::Tags::waits_as_given))]
     fn waits(&self, message: MessageId) -> bool {
         self.below.waits(message)
     }

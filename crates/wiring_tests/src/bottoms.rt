@@ -4,11 +4,11 @@ use chart::numbers::MessageId;
 use delivery::meaning::Delivery;
 use delivery::refusal::{PutRefusal, TakeRefusal};
 use std::test::*;
-use wirings::bottoms::{new_bag, new_mailbox, new_meeting, new_paired_line};
+use wirings::bottoms::{Bag, Mailbox, Meeting, PairedLine};
 
 #[test]
 fn bag_gives_parcels_in_any_order(rt: HostRuntime) -> Result<(), Fail> {
-    let mut bag = new_bag(rt.alloc())?;
+    let mut bag = Bag::new(rt.alloc())?;
     play(
         &rt,
         &mut bag,
@@ -31,7 +31,7 @@ fn bag_gives_parcels_in_any_order(rt: HostRuntime) -> Result<(), Fail> {
 
 #[test]
 fn paired_line_keeps_the_order_of_each_pair(rt: HostRuntime) -> Result<(), Fail> {
-    let mut line = new_paired_line(rt.alloc())?;
+    let mut line = PairedLine::new(rt.alloc())?;
     play(
         &rt,
         &mut line,
@@ -72,7 +72,7 @@ fn paired_line_keeps_the_order_of_each_pair(rt: HostRuntime) -> Result<(), Fail>
 
 #[test]
 fn mailbox_keeps_the_order_of_each_receiver(rt: HostRuntime) -> Result<(), Fail> {
-    let mut mailbox = new_mailbox(rt.alloc())?;
+    let mut mailbox = Mailbox::new(rt.alloc())?;
     play(
         &rt,
         &mut mailbox,
@@ -106,7 +106,7 @@ fn mailbox_keeps_the_order_of_each_receiver(rt: HostRuntime) -> Result<(), Fail>
 
 #[test]
 fn meeting_has_room_for_one(rt: HostRuntime) -> Result<(), Fail> {
-    let mut meeting = new_meeting(rt.alloc())?;
+    let mut meeting = Meeting::one_at_a_time(rt.alloc())?;
     play(
         &rt,
         &mut meeting,
@@ -124,10 +124,10 @@ fn meeting_has_room_for_one(rt: HostRuntime) -> Result<(), Fail> {
 
 #[test]
 fn bottoms_tell_their_rule_and_capacity(rt: HostRuntime) -> Result<(), Fail> {
-    let bag = new_bag(rt.alloc())?;
-    let line = new_paired_line(rt.alloc())?;
-    let mailbox = new_mailbox(rt.alloc())?;
-    let meeting = new_meeting(rt.alloc())?;
+    let bag = Bag::new(rt.alloc())?;
+    let line = PairedLine::new(rt.alloc())?;
+    let mailbox = Mailbox::new(rt.alloc())?;
+    let meeting = Meeting::one_at_a_time(rt.alloc())?;
     assert_eq!(rt; bag.capacity(), 64);
     assert_eq!(rt; line.capacity(), 64);
     assert_eq!(rt; mailbox.capacity(), 64);

@@ -32,6 +32,15 @@ fn mailbox_holds(mailbox: &Mailbox, first: Tag, second: Tag) -> bool
     mailbox.holds(first, second)
 }
 
+// A meeting is a bag but for its capacity.
+fn meeting_holds(meeting: &Meeting, first: Tag, second: Tag) -> bool
+    ensures { result ≡ false }
+{
+    meeting.holds(first, second)
+}
+
+// The two parcels stay two parameters: each clause names one of them, and a struct would be taken apart in each.
+
 // Over any delivery of capacity 1 the second of two messages comes back as full, and names the layer laid down for it.
 fn second_put<D: Delivery>(
     delivery: &mut D,

@@ -7,63 +7,49 @@ use layers::relay::Relay;
 use layers::unbuilt::Unbuilt;
 use std::process::Abort;
 use std::test::*;
-use wirings::bottoms::{Bag, new_bag};
+use wirings::bottoms::Bag;
 
 // A bag in which one parcel waits.
 fn used_bag(rt: &(impl Abort + AllocGlobal)) -> Result<Bag, Fail> {
-    let mut bag = new_bag(rt.alloc())?;
+    let mut bag = Bag::new(rt.alloc())?;
     play(rt, &mut bag, &[Step::Put(7, 0, 1)])?;
     Ok(bag)
 }
 
-fn refused_as(
+// The bag that comes back with a refusal of this number, which tells what was asked for.
+fn not_made<L: Drop>(
     rt: &impl Abort,
-    refusal: Unbuilt<Bag>,
+    made: Result<L, Unbuilt<Bag>>,
     refusal_number: u8,
     asked: u16,
 ) -> Result<Bag, Fail> {
+    let Err(refusal) = made else {
+        return Err(Fail::new("a layer was made"));
+    };
     assert_eq!(rt; refusal.refusal_number(), refusal_number);
-    match refusal {
-        Unbuilt::BoundNumber { number, below } => {
-            assert_eq!(rt; number, asked);
-            Ok(below)
-        }
-        Unbuilt::RelayNumber { number, below } => {
-            assert_eq!(rt; number, asked);
-            Ok(below)
-        }
-    }
+    let (Unbuilt::BoundNumber { number, below } | Unbuilt::RelayNumber { number, below }) = refusal;
+    assert_eq!(rt; number, asked);
+    Ok(below)
 }
 
 fn no_bound(rt: &impl Abort, bag: Bag, number: u16) -> Result<Bag, Fail> {
-    match Bound::new(bag, number) {
-        Ok(_) => Err(Fail::new("a bound was made")),
-        Err(refusal) => refused_as(rt, refusal, 11, number),
-    }
+    not_made(rt, Bound::new(bag, number), 11, number)
 }
 
 fn no_relay(rt: &impl Abort, bag: Bag, number: u16) -> Result<Bag, Fail> {
-    match Relay::new(bag, Group([true; 16]), number) {
-        Ok(_) => Err(Fail::new("a relay was made")),
-        Err(refusal) => refused_as(rt, refusal, 12, number),
-    }
+    not_made(rt, Relay::new(bag, Group([true; 16]), number), 12, number)
 }
 
 fn bounded(rt: &impl Abort, bag: Bag, number: u16) -> Result<Bag, Fail> {
-    match Bound::new(bag, number) {
-        Ok(bound) => {
-            assert_eq!(rt; bound.capacity(), number);
-            Ok(bound.into_below())
-        }
-        Err(_) => Err(Fail::new("no bound was made")),
-    }
+    let bound = Bound::new(bag, number).map_err(|_| Fail::new("no bound was made"))?;
+    assert_eq!(rt; bound.capacity(), number);
+    Ok(bound.into_below())
 }
 
 fn relayed(bag: Bag, number: u16) -> Result<Bag, Fail> {
-    match Relay::new(bag, Group([true; 16]), number) {
-        Ok(relay) => Ok(relay.into_below()),
-        Err(_) => Err(Fail::new("no relay was made")),
-    }
+    Relay::new(bag, Group([true; 16]), number)
+        .map(Relay::into_below)
+        .map_err(|_| Fail::new("no relay was made"))
 }
 
 #[test]

@@ -7,23 +7,17 @@ use layers::bound::Bound;
 use layers::group::Group;
 use layers::relay::Relay;
 use std::test::*;
-use wirings::bottoms::{new_bag, new_meeting, new_paired_line};
+use wirings::bottoms::{Bag, Meeting, PairedLine};
 
-fn bound<D: Delivery + Drop>(below: D, number: u16) -> Result<Bound<D>, Fail> {
-    match Bound::new(below, number) {
-        Ok(bound) => Ok(bound),
-        Err(_) => Err(Fail::new("no bound")),
-    }
+pub(crate) fn bound<D: Delivery + Drop>(below: D, number: u16) -> Result<Bound<D>, Fail> {
+    Bound::new(below, number).map_err(|_| Fail::new("no bound"))
 }
 
 fn group(one: u16, other: u16) -> Result<Group, Fail> {
-    let Some(first) = Group::NONE.with(InstanceId(one)) else {
-        return Err(Fail::new("no such instance"));
-    };
-    match first.with(InstanceId(other)) {
-        Some(both) => Ok(both),
-        None => Err(Fail::new("no such instance")),
-    }
+    Group::NONE
+        .with(InstanceId(one))
+        .and_then(|first| first.with(InstanceId(other)))
+        .ok_or_else(|| Fail::new("no such instance"))
 }
 
 // A relay of the two given instances.
@@ -33,16 +27,12 @@ fn relay<D: Delivery + Drop>(
     other: u16,
     number: u16,
 ) -> Result<Relay<D>, Fail> {
-    let members = group(one, other)?;
-    match Relay::new(below, members, number) {
-        Ok(relay) => Ok(relay),
-        Err(_) => Err(Fail::new("no relay")),
-    }
+    Relay::new(below, group(one, other)?, number).map_err(|_| Fail::new("no relay"))
 }
 
 #[test]
 fn bound_stops_at_its_number(rt: HostRuntime) -> Result<(), Fail> {
-    let mut pile = bound(new_paired_line(rt.alloc())?, 2)?;
+    let mut pile = bound(PairedLine::new(rt.alloc())?, 2)?;
     assert_eq!(rt; pile.capacity(), 2);
     play(
         &rt,
@@ -70,7 +60,7 @@ fn bound_stops_at_its_number(rt: HostRuntime) -> Result<(), Fail> {
 
 #[test]
 fn uppermost_bound_at_its_limit_is_named(rt: HostRuntime) -> Result<(), Fail> {
-    let mut inner = bound(bound(new_bag(rt.alloc())?, 1)?, 2)?;
+    let mut inner = bound(bound(Bag::new(rt.alloc())?, 1)?, 2)?;
     play(
         &rt,
         &mut inner,
@@ -79,7 +69,7 @@ fn uppermost_bound_at_its_limit_is_named(rt: HostRuntime) -> Result<(), Fail> {
             Step::Refused(1, 0, 1, PutRefusal::Full { layer: 1 }),
         ],
     )?;
-    let mut outer = bound(bound(new_bag(rt.alloc())?, 2)?, 1)?;
+    let mut outer = bound(bound(Bag::new(rt.alloc())?, 2)?, 1)?;
     play(
         &rt,
         &mut outer,
@@ -88,7 +78,7 @@ fn uppermost_bound_at_its_limit_is_named(rt: HostRuntime) -> Result<(), Fail> {
             Step::Refused(1, 0, 1, PutRefusal::Full { layer: 0 }),
         ],
     )?;
-    let mut both = bound(bound(new_bag(rt.alloc())?, 1)?, 1)?;
+    let mut both = bound(bound(Bag::new(rt.alloc())?, 1)?, 1)?;
     play(
         &rt,
         &mut both,
@@ -97,7 +87,7 @@ fn uppermost_bound_at_its_limit_is_named(rt: HostRuntime) -> Result<(), Fail> {
             Step::Refused(1, 0, 1, PutRefusal::Full { layer: 0 }),
         ],
     )?;
-    let mut bottom = bound(new_meeting(rt.alloc())?, 3)?;
+    let mut bottom = bound(Meeting::one_at_a_time(rt.alloc())?, 3)?;
     assert_eq!(rt; bottom.capacity(), 1);
     play(
         &rt,
@@ -111,7 +101,7 @@ fn uppermost_bound_at_its_limit_is_named(rt: HostRuntime) -> Result<(), Fail> {
 
 #[test]
 fn relay_sends_for_its_group(rt: HostRuntime) -> Result<(), Fail> {
-    let mut pile = relay(new_paired_line(rt.alloc())?, 0, 2, 16)?;
+    let mut pile = relay(PairedLine::new(rt.alloc())?, 0, 2, 16)?;
     assert_eq!(rt; pile.capacity(), 64);
     play(
         &rt,
@@ -147,7 +137,7 @@ fn relay_sends_for_its_group(rt: HostRuntime) -> Result<(), Fail> {
 // Twin: two messages of one instance to another.
 #[test]
 fn relay_over_meeting_is_full_at_layer_one(rt: HostRuntime) -> Result<(), Fail> {
-    let mut pile = relay(new_meeting(rt.alloc())?, 0, 1, 31)?;
+    let mut pile = relay(Meeting::one_at_a_time(rt.alloc())?, 0, 1, 31)?;
     play(
         &rt,
         &mut pile,
@@ -160,7 +150,7 @@ fn relay_over_meeting_is_full_at_layer_one(rt: HostRuntime) -> Result<(), Fail> 
 
 #[test]
 fn chained_relays_show_one_after_the_other(rt: HostRuntime) -> Result<(), Fail> {
-    let mut alike = relay(relay(new_paired_line(rt.alloc())?, 2, 2, 16)?, 0, 0, 16)?;
+    let mut alike = relay(relay(PairedLine::new(rt.alloc())?, 2, 2, 16)?, 0, 0, 16)?;
     play(
         &rt,
         &mut alike,
@@ -178,7 +168,7 @@ fn chained_relays_show_one_after_the_other(rt: HostRuntime) -> Result<(), Fail> 
             Step::Take(1, 2, 1),
         ],
     )?;
-    let mut apart = relay(relay(new_paired_line(rt.alloc())?, 2, 2, 17)?, 0, 0, 16)?;
+    let mut apart = relay(relay(PairedLine::new(rt.alloc())?, 2, 2, 17)?, 0, 0, 16)?;
     play(
         &rt,
         &mut apart,
@@ -193,7 +183,7 @@ fn chained_relays_show_one_after_the_other(rt: HostRuntime) -> Result<(), Fail> 
 
 #[test]
 fn tall_pile_names_bound_or_bottom(rt: HostRuntime) -> Result<(), Fail> {
-    let lower = bound(relay(new_paired_line(rt.alloc())?, 2, 3, 17)?, 2)?;
+    let lower = bound(relay(PairedLine::new(rt.alloc())?, 2, 3, 17)?, 2)?;
     let mut pile = relay(lower, 0, 1, 16)?;
     play(
         &rt,

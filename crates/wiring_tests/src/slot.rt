@@ -53,10 +53,9 @@ impl Delivery for Slot {
         if !self.waits(message) {
             return Err(TakeRefusal::Absent { layer: self.layer });
         }
-        match self.parcel.take() {
-            Some(parcel) => Ok(parcel),
-            None => Err(TakeRefusal::Absent { layer: self.layer }),
-        }
+        self.parcel
+            .take()
+            .ok_or(TakeRefusal::Absent { layer: self.layer })
     }
 
     fn empty(&mut self) {
@@ -64,14 +63,12 @@ impl Delivery for Slot {
     }
 
     fn count(&self) -> usize {
-        if self.parcel.is_some() { 1 } else { 0 }
+        self.parcel.is_some() as usize
     }
 
     fn waits(&self, message: MessageId) -> bool {
-        match self.parcel {
-            Some(waiting) => waiting.message == message,
-            None => false,
-        }
+        self.parcel
+            .is_some_and(|waiting| waiting.message == message)
     }
 
     fn holds(&self, _first: Tag, _second: Tag) -> bool {
@@ -84,28 +81,20 @@ impl Delivery for Slot {
 }
 
 #[cfg(test)]
-use crate::step::{Step, play};
+use crate::piles::bound;
 #[cfg(test)]
-use layers::bound::Bound;
+use crate::step::{Step, play};
 #[cfg(test)]
 use std::test::*;
 
 // The count of layers stops at 255, and a stranger's layers are passed on like ours.
 #[test]
 fn layers_stop_at_255(rt: HostRuntime) -> Result<(), Fail> {
-    let Ok(lower) = Bound::new(
-        Slot {
-            parcel: None,
-            layer: 254,
-        },
-        2,
-    ) else {
-        return Err(Fail::new("no bound"));
+    let slot = Slot {
+        parcel: None,
+        layer: 254,
     };
-    let Ok(upper) = Bound::new(lower, 3) else {
-        return Err(Fail::new("no bound"));
-    };
-    let mut pile = upper;
+    let mut pile = bound(bound(slot, 2)?, 3)?;
     play(
         &rt,
         &mut pile,

@@ -19,24 +19,17 @@ pub(crate) enum Step {
     Waits(u16, bool),
 }
 
-fn station(number: u16) -> Result<Station, Fail> {
-    match Station::new(number) {
-        Some(station) => Ok(station),
-        None => Err(Fail::new("no such station")),
-    }
-}
-
 pub(crate) fn tag(sender: u16, receiver: u16) -> Result<Tag, Fail> {
-    let sender = station(sender)?;
-    let receiver = station(receiver)?;
-    Ok(Tag { sender, receiver })
+    Ok(Tag {
+        sender: Station::try_from(sender)?,
+        receiver: Station::try_from(receiver)?,
+    })
 }
 
 fn parcel(message: u16, sender: u16, receiver: u16) -> Result<Parcel, Fail> {
-    let tag = tag(sender, receiver)?;
     Ok(Parcel {
         message: MessageId(message),
-        tag,
+        tag: tag(sender, receiver)?,
     })
 }
 

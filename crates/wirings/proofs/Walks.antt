@@ -1,48 +1,45 @@
--- One step of a walk over waiting parcels.
-use Rattle.std.proofs.Common.{◌≡◌, ℕ, ◌+◌, ◌<◌, Bool, true, false, List, [], ◌∷◌, ◌++◌, length, get_or, take, drop, Some, None, sym, ap, ◌∙◌, append_assoc, add-one}
-use Rattle.std.specs.List.{remove}
-use Rattle.std.proofs.lemmas.List.{at_drop_more, take_more, get_or_default}
-use Rattle.std.proofs.lemmas.Bool.{eq-eqb, ne_eqb}
+-- The first parcel of a message, and the first that holds a tag, by the library's searches.
+use Rattle.std.proofs.Common.{◌≡◌, ℕ, ◌<◌, Bool, List, [], ◌∷◌, length, get_or, take, Some, None, refl, ap, ◌∙◌, ⊎_elim, arith, position, find, slice_get}
+use Rattle.std.proofs.Math.Numerals.{one-add}
+use Rattle.std.specs.List.{remove, position_or_len}
+use Rattle.std.specs.Option.{option_map}
+use Rattle.std.proofs.lemmas.Bool.{cases_Bool}
+use Rattle.std.proofs.lemmas.List.Folds.{find_at}
+use Rattle.std.proofs.lemmas.Option.{slice_get-get_or, slice_get_past}
 use Rattle.delivery.specs.declared.parcel.Tag.{Tag}
 use Rattle.delivery.specs.declared.parcel.Parcel.{Parcel}
-use Rattle.delivery.specs.Waiting.{waits_in, parcel_of, ahead_of, without, first_holder}
+use Rattle.delivery.specs.Waiting.{is_of, parcel_of, ahead_of, without, first_holder}
 
--- the walk reads p at index i of w
-module _ (w : List Parcel) (i : ℕ) (within : i < length w) (p : Parcel) (read : p ≡ get_or w i p) where
-  front : drop i w ≡ p ∷ drop (i + 1) w
-  front = at_drop_more (λ l. l) w i p within ∙ ap (λ q. q ∷ drop (i + 1) w) (sym read)
+holder_found : (rule : Tag → Tag → Bool) (t : Tag) (w : List Parcel) → first_holder rule t w ≡ option_map (λ (p : Parcel). p.message) (find (λ (p : Parcel). rule p.tag t) w)
+holder_found rule t [] = refl
+holder_found rule t (p ∷ w) = grind (arith, holder_found rule t w)
 
-  -- p is the parcel of message n
-  module _ (n : ℕ) (this : p.message.0 ≡ n) where
-    pub waits_at : waits_in n (drop i w) ≡ true
-    waits_at = ap (waits_in n) front ∙ rw (eq-eqb p.message.0 n this)
+module _ (n : ℕ) where
+  ahead_before : (w : List Parcel) → ahead_of n w ≡ take (position_or_len (is_of n) w) w
+  ahead_before [] = refl
+  ahead_before (p ∷ w) =
+      ⊎_elim (λ e. rw e) (λ e. rw e (simp one-add (ap (λ (l : List Parcel). p ∷ l) (ahead_before w)))) (cases_Bool (is_of n p))
 
-    pub parcel_at : (d : Parcel) → parcel_of n (drop i w) ≡ Some (get_or w i d)
-    parcel_at d = ap (parcel_of n) front ∙ rw (eq-eqb p.message.0 n this, read) (ap Some (get_or_default w i p d within))
+  without_removed : (w : List Parcel) → without n w ≡ remove w (position_or_len (is_of n) w)
+  without_removed [] = refl
+  without_removed (p ∷ w) =
+      ⊎_elim (λ e. rw e) (λ e. rw e (simp one-add (ap (λ (l : List Parcel). p ∷ l) (without_removed w)))) (cases_Bool (is_of n p))
 
-    pub without_at : take i w ++ without n (drop i w) ≡ remove w i
-    without_at = ap (λ l. take i w ++ without n l) front ∙ rw (eq-eqb p.message.0 n this, add-one)
+  module _ (w : List Parcel) where
+    pub nowhere : None ≡ position (is_of n) w → parcel_of n w ≡ None
+    nowhere e = find_at (is_of n) w ∙ grind (arith, slice_get_past)
 
-    pub none_ahead : (rule : Tag → Tag → Bool) (t : Tag) → first_holder rule t (ahead_of n (drop i w)) ≡ None
-    none_ahead rule t = ap (λ l. first_holder rule t (ahead_of n l)) front ∙ rw (eq-eqb p.message.0 n this)
+    module _ (i : ℕ) (found : Some i ≡ position (is_of n) w) where
+      there : (position_or_len (is_of n) w ≡ i) × (i < length w)
+      there = grind arith
 
-  -- p is the parcel of another message
-  module _ (n : ℕ) (other : p.message.0 ≡ n → ⊥) where
-    pub waits_past : waits_in n (drop i w) ≡ waits_in n (drop (i + 1) w)
-    waits_past = ap (waits_in n) front ∙ rw (ne_eqb p.message.0 n other)
+      pub parcel_at : (d : Parcel) → parcel_of n w ≡ Some (get_or w i d)
+      parcel_at d = find_at (is_of n) w ∙ ap (slice_get w) there.0 ∙ slice_get-get_or w i d there.1
 
-    pub parcel_past : parcel_of n (drop i w) ≡ parcel_of n (drop (i + 1) w)
-    parcel_past = ap (parcel_of n) front ∙ rw (ne_eqb p.message.0 n other)
+      pub without_at : without n w ≡ remove w i
+      without_at = without_removed w ∙ rw there.0
 
-    pub without_past : take i w ++ without n (drop i w) ≡ take (i + 1) w ++ without n (drop (i + 1) w)
-    without_past =
-        let here : take i w ++ without n (drop i w) ≡ take i w ++ p ∷ without n (drop (i + 1) w) = ap (λ l. take i w ++ without n l) front ∙ rw (ne_eqb p.message.0 n other) in
-        let grown : take (i + 1) w ≡ take i w ++ p ∷ [] = take_more w i p within ∙ ap (λ q. take i w ++ q ∷ []) (sym read) in
-        here ∙ sym (append_assoc (take i w) (p ∷ []) (without n (drop (i + 1) w))) ∙ ap (λ l. l ++ without n (drop (i + 1) w)) (sym grown)
+      pub holder_at : (rule : Tag → Tag → Bool) (t : Tag) → first_holder rule t (ahead_of n w) ≡ option_map (λ (p : Parcel). p.message) (find (λ (p : Parcel). rule p.tag t) (take i w))
+      holder_at rule t = ap (first_holder rule t) (ahead_before w ∙ rw there.0) ∙ holder_found rule t (take i w)
 
-    module _ (rule : Tag → Tag → Bool) (t : Tag) where
-      pub holder_at : rule p.tag t ≡ true → first_holder rule t (ahead_of n (drop i w)) ≡ Some p.message
-      holder_at e = ap (λ l. first_holder rule t (ahead_of n l)) front ∙ rw (ne_eqb p.message.0 n other, e)
-
-      pub holder_past : rule p.tag t ≡ false → first_holder rule t (ahead_of n (drop i w)) ≡ first_holder rule t (ahead_of n (drop (i + 1) w))
-      holder_past e = ap (λ l. first_holder rule t (ahead_of n l)) front ∙ rw (ne_eqb p.message.0 n other, e)
+pub ruleset standing = (nowhere, parcel_at, without_at, holder_at)

@@ -1,11 +1,11 @@
 // A queue over any hold rule as a delivery.
 ghost use Rattle.std.specs.Prelude.{◌≡◌, ◌≤◌, [], IfOk, Some};
 ghost use Rattle.delivery.specs.Waiting.{message_limit};
-ghost use Rattle.std.proofs.Common.{rules, arith};
+ghost use Rattle.std.proofs.Common.{rules};
 
 use crate::hold_rule::HoldRule;
 use crate::queue::Queue;
-use crate::search::{holder_ahead, place_of, waits_among};
+use crate::search::{first_holding, place_of, waits_among};
 use chart::numbers::MessageId;
 use delivery::limits::MESSAGE_LIMIT;
 use delivery::meaning::Delivery;
@@ -13,25 +13,38 @@ use delivery::parcel::{Parcel, Tag};
 use delivery::refusal::{Accepted, PutRefusal, TakeRefusal};
 use std::alloc::{AllocError, Global};
 
-impl<R: HoldRule + Drop> Queue<R> {
-    // An empty queue; refused only if there is no memory for as many parcels as may wait.
-    pub(crate) fn new(heap: Global, rule: R, capacity: u16) -> Result<Queue<R>, AllocError>
+impl<R: HoldRule + Default + Drop> Queue<R> {
+    fn with_capacity(heap: Global, capacity: u16) -> Result<Queue<R>, AllocError>
         requires { (1 ≤ capacity) × (capacity ≤ message_limit) }
-        ensures { IfOk result (λ q. (q.rule ≡ rule) × (q.capacity ≡ capacity) × (q.parcels.items ≡ [])) }
+        ensures { IfOk result (λ q. R.is_default q.rule × (q.capacity ≡ capacity) × (q.parcels.items ≡ [])) }
     {
         let parcels = Vec::with_capacity(heap, capacity as usize)?;
         Ok(Queue {
-            rule,
+            rule: R::default(),
             capacity,
             parcels,
         })
+    }
+
+    // An empty queue for as many parcels as there can be messages; refused only if there is no memory for them.
+    pub fn new(heap: Global) -> Result<Queue<R>, AllocError>
+        ensures { IfOk result (λ q. R.is_default q.rule × (q.capacity ≡ message_limit) × (q.parcels.items ≡ [])) }
+    {
+        Queue::with_capacity(heap, MESSAGE_LIMIT)
+    }
+
+    // An empty queue for one parcel: the next is accepted only when the last has been taken.
+    pub fn one_at_a_time(heap: Global) -> Result<Queue<R>, AllocError>
+        ensures { IfOk result (λ q. R.is_default q.rule × (q.capacity ≡ 1) × (q.parcels.items ≡ [])) }
+    {
+        Queue::with_capacity(heap, 1)
     }
 }
 
 impl<R: HoldRule> Delivery for Queue<R> {
     ghost waiting = { λ s. s.parcels.items };
 
-    ghost rule = { λ s. R.HoldRule.held s.rule };
+    ghost rule = { λ s. R.held s.rule };
 
     ghost room = { λ s. s.capacity };
 
@@ -39,16 +52,17 @@ impl<R: HoldRule> Delivery for Queue<R> {
 
     ghost layer = { λ _ _ _. Some 0 };
 
-    ghost transitive = { first_of (Prim.search rules, Prim.grind (arith, Self.row.coded.inj)) };
+    ghost transitive = { λ s. R.carries s.rule };
 
-    ghost some = { first_of (Prim.search rules, Prim.grind (arith, Self.row.coded.inj)) };
+    ghost some = { λ s. s.some };
 
-    ghost few = { first_of (Prim.search rules, Prim.grind (arith, Self.row.coded.inj)) };
+    ghost few = { λ s. s.few };
 
-    ghost fits = { first_of (Prim.search rules, Prim.grind (arith, Self.row.coded.inj)) };
+    ghost fits = { Prim.search rules };
 
-    ghost once = { first_of (Prim.search rules, Prim.grind (arith, Self.row.coded.inj)) };
+    ghost once = { λ s _. s.once };
 
+    #[tactic(auto, using(delivery::proofs::Distinct::distinct_push))]
     fn put(&mut self, parcel: Parcel) -> Result<Accepted, PutRefusal> {
         if parcel.message.0 >= MESSAGE_LIMIT {
             return Err(PutRefusal::Far { layer: 0 });
@@ -63,15 +77,17 @@ impl<R: HoldRule> Delivery for Queue<R> {
         Ok(Accepted)
     }
 
+    #[tactic(auto, using(crate::proofs::Walks::standing))]
     fn take(&mut self, message: MessageId) -> Result<Parcel, TakeRefusal> {
         let Some(i) = place_of(&self.parcels, message) else {
             return Err(TakeRefusal::Absent { layer: 0 });
         };
         let parcel = self.parcels[i];
-        if let Some(by) = holder_ahead(&self.rule, &self.parcels, parcel.tag, message) {
+        if let Some(by) = first_holding(&self.rule, &self.parcels[..i], parcel.tag) {
             return Err(TakeRefusal::Held { by, layer: 0 });
         }
-        Ok(self.parcels.remove(i))
+        self.parcels.remove(i);
+        Ok(parcel)
     }
 
     fn empty(&mut self) {

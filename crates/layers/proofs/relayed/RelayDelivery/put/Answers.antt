@@ -1,45 +1,24 @@
-use Rattle.std.proofs.Common.{List, Ok, Err, ap, subst}
-use Rattle.delivery.specs.declared.parcel.Tag.{Tag}
-use Rattle.delivery.specs.declared.parcel.Parcel.{Parcel}
-use Rattle.delivery.specs.Answers.{Put}
-use Rattle.layers.specs.Layers.{layer_below}
+use Rattle.std.proofs.Common.{Err, ap, ◌∙◌}
+use Rattle.std.proofs.lemmas.Result.{err_from_is_err_and}
 use Rattle.layers.specs.Shown.{shown}
-use Rattle.layers.proofs.Relays.{put_named, relay_put, relay_put_agree, relay_refuse, relay_refuse_agree}
+use Rattle.layers.proofs.Relays.{put_named, relay_put, relay_put_agree}
 use Rattle.layers.proofs.relayed.RelayDelivery.put.Goals as goal
 
-pub returns-then-i-lt-MESSAGE_PLACES : goal.returns-then-i-lt-MESSAGE_PLACES
-returns-then-i-lt-MESSAGE_PLACES g c =
+pub returns-then-i-lt-MESSAGE_PLACES-clause-starts : goal.returns-then-i-lt-MESSAGE_PLACES-clause-starts
+returns-then-i-lt-MESSAGE_PLACES-clause-starts g c s =
     let m = g.D.Delivery in
     let this = c.args.self.now in
-    let show : Tag → Tag = shown this.group.0 this.station in
-    let w : List Parcel = m.waiting this.below in
-    let after : List Parcel = m.waiting c.put.new.self in
-    let p : Parcel = c.args.parcel in
-    let below : m.started this.below → Put (m.room this.below) w (record { message = p.message; tag = show p.tag }) (Ok c.in-Ok.accepted) after = λ s. rw c.show-tag.ensures at (c.in-Ok.ensures.puts s) in
-    record {
-      rule = ap (λ R a b. R (show a) (show b)) c.put.ensures.rule;
-      room = c.put.ensures.room;
-      layer = ap (λ L n. layer_below (L n)) c.put.ensures.layer;
-      starts = λ s. (c.put.ensures.starts s.0, relay_put_agree show this.given (m.room this.below) w s.1 p this.places c.in-Ok.accepted after (below s.0));
-      puts = λ s. relay_put show this.given (m.room this.below) w s.1 p this.places c.in-Ok.accepted after (below s.0);
-      names = λ _. tt;
-    }
+    (c.put.ensures.starts s.0, relay_put_agree (shown this.group.0 this.station) this.given (m.room this.below) (m.waiting this.below) s.1 c.args.parcel c.put.result (m.waiting c.put.new.self) this.places c.in_ok-accepted.accepted c.in_ok-accepted.ensures (rw c.show-tag.ensures at (c.put.ensures.puts s.0)))
 
-pub returns-in-Err : goal.returns-in-Err
-returns-in-Err g c =
+pub returns-then-i-lt-MESSAGE_PLACES-clause-puts : goal.returns-then-i-lt-MESSAGE_PLACES-clause-puts
+returns-then-i-lt-MESSAGE_PLACES-clause-puts g c s =
     let m = g.D.Delivery in
     let this = c.args.self.now in
-    let show : Tag → Tag = shown this.group.0 this.station in
-    let w : List Parcel = m.waiting this.below in
-    let after : List Parcel = m.waiting c.put.new.self in
-    let p : Parcel = c.args.parcel in
-    let e = c.in-Err.refusal in
-    let below : m.started this.below → Put (m.room this.below) w (record { message = p.message; tag = show p.tag }) (Err e) after = λ s. subst (λ (t : Tag). Put (m.room this.below) w (record { message = p.message; tag = t }) (Err e) after) c.show-tag.ensures (c.in-Err.ensures.puts s) in
-    record {
-      rule = ap (λ R a b. R (show a) (show b)) c.put.ensures.rule;
-      room = c.put.ensures.room;
-      layer = ap (λ L n. layer_below (L n)) c.put.ensures.layer;
-      starts = λ s. (c.put.ensures.starts s.0, relay_refuse_agree show this.given (m.room this.below) w s.1 p e after (below s.0));
-      puts = λ s. rw c.put_deeper.ensures (relay_refuse show this.given (m.room this.below) w s.1 p e after (below s.0));
-      names = λ s. rw c.put_deeper.ensures (put_named (m.layer this.below) this.given w e (c.in-Err.ensures.names s.0));
-    }
+    relay_put (shown this.group.0 this.station) this.given (m.room this.below) (m.waiting this.below) s.1 c.args.parcel c.put.result (m.waiting c.put.new.self) this.places c.in_ok-accepted.accepted c.in_ok-accepted.ensures (rw c.show-tag.ensures at (c.put.ensures.puts s.0))
+
+pub returns-in_err-accepted-clause-names : goal.returns-in_err-accepted-clause-names
+returns-in_err-accepted-clause-names g c s =
+    let m = g.D.Delivery in
+    let this = c.args.self.now in
+    let back = err_from_is_err_and c.from_residual.result c.from_residual.ensures.1 in
+    rw (back.1 ∙ ap Err back.2 ∙ c.in_err-accepted.ensures) (put_named (m.layer this.below) this.given (m.waiting this.below) c.put.result (c.put.ensures.names s.0))
