@@ -1,5 +1,5 @@
 -- What a step of the reading that succeeded took from the text, and what it added.
-use Rattle.std.proofs.Common.{◌≡◌, ℕ, ◌<◌, Bool, true, false, cond, eqb, ltb, ◌⊎◌, List, [], ◌∷◌, length, Some, Ok, Err, codes, Result, sym, refl, ap, ◌∙◌, subst, inl, inr, arith}
+use Rattle.std.proofs.Common.{◌≡◌, ℕ, ◌<◌, Bool, true, false, cond, eqb, ltb, ◌⊎◌, List, [], ◌∷◌, length, Some, Ok, Err, codes, Result, sym, refl, ap, ◌∙◌, subst, inl, inr}
 use Rattle.std.specs.Str.{bytes_eq}
 use Rattle.std.proofs.lemmas.Slice.Eq.{bytes_eq-Decides}
 use Rattle.std.proofs.lemmas.Bool.{cases_Bool, cond-true, cond-false, and_from, le-leb, ltb-false, eqb-true}
@@ -14,50 +14,50 @@ use Rattle.reader.specs.Lexemes.{Lexeme, word, semicolon, comma, colon, finish, 
 use Rattle.reader.specs.Meaning.{Sign, written, semicolon_sign, comma_sign, colon_sign}
 use Rattle.reader.specs.Reading.{Outcome, on_word, on_semicolon, on_colon, on_end, on_comma_or_semicolon, name_by, name_at, instance_at, new_message_at, receiver_at, sent_message_at, sender_is, keyword_from, semicolon_from, out_line, in_line, event_line}
 use Rattle.reader.specs.declared.refusals.Refusal.TheVariants.{Unexpected, NotAsSent}
-use Rattle.reader.proofs.Inversion.{refused, same_ok, then_ok, passes, instance_ok, receiver_ok, new_message_ok, sent_message_all}
+use Rattle.reader.proofs.Inversion.{same_ok, then_ok, passes, instance_ok, receiver_ok, new_message_ok, sent_message_all}
 use Rattle.reader.proofs.Lexing.{Shows}
 use Rattle.reader.proofs.Taking.{Takes, takes_then}
 
 module _ {Y : Type 0} (y : Y) where
   pub word_ok : (l : Lexeme) (f : Text → ℕ → Outcome Y) → on_word l f ≡ Ok y → (t : Text) × (p : ℕ) × Shows (written t) l × (f t p ≡ Ok y)
   word_ok (word t p) f h = (t, p, refl, h)
-  word_ok (semicolon t p) f h = refused _ y _ h
-  word_ok (comma t p) f h = refused _ y _ h
-  word_ok (colon t p) f h = refused _ y _ h
-  word_ok (finish p) f h = refused _ y _ h
-  word_ok (stray p) f h = refused _ y _ h
+  word_ok (semicolon t p) f h = absurd cc
+  word_ok (comma t p) f h = absurd cc
+  word_ok (colon t p) f h = absurd cc
+  word_ok (finish p) f h = absurd cc
+  word_ok (stray p) f h = absurd cc
 
   semicolon_ok : (l : Lexeme) (r : Outcome Y) → on_semicolon l r ≡ Ok y → Shows semicolon_sign l × (r ≡ Ok y)
-  semicolon_ok (word t p) r h = refused _ y _ h
+  semicolon_ok (word t p) r h = absurd cc
   semicolon_ok (semicolon t p) r h = (refl, h)
-  semicolon_ok (comma t p) r h = refused _ y _ h
-  semicolon_ok (colon t p) r h = refused _ y _ h
-  semicolon_ok (finish p) r h = refused _ y _ h
-  semicolon_ok (stray p) r h = refused _ y _ h
+  semicolon_ok (comma t p) r h = absurd cc
+  semicolon_ok (colon t p) r h = absurd cc
+  semicolon_ok (finish p) r h = absurd cc
+  semicolon_ok (stray p) r h = absurd cc
 
   colon_ok : (l : Lexeme) (r : Outcome Y) → on_colon l r ≡ Ok y → Shows colon_sign l × (r ≡ Ok y)
-  colon_ok (word t p) r h = refused _ y _ h
-  colon_ok (semicolon t p) r h = refused _ y _ h
-  colon_ok (comma t p) r h = refused _ y _ h
+  colon_ok (word t p) r h = absurd cc
+  colon_ok (semicolon t p) r h = absurd cc
+  colon_ok (comma t p) r h = absurd cc
   colon_ok (colon t p) r h = (refl, h)
-  colon_ok (finish p) r h = refused _ y _ h
-  colon_ok (stray p) r h = refused _ y _ h
+  colon_ok (finish p) r h = absurd cc
+  colon_ok (stray p) r h = absurd cc
 
   pub end_ok : (l : Lexeme) (r : Outcome Y) → on_end l r ≡ Ok y → (p : ℕ) × (l ≡ finish p) × (r ≡ Ok y)
-  end_ok (word t p) r h = refused _ y _ h
-  end_ok (semicolon t p) r h = refused _ y _ h
-  end_ok (comma t p) r h = refused _ y _ h
-  end_ok (colon t p) r h = refused _ y _ h
+  end_ok (word t p) r h = absurd cc
+  end_ok (semicolon t p) r h = absurd cc
+  end_ok (comma t p) r h = absurd cc
+  end_ok (colon t p) r h = absurd cc
   end_ok (finish p) r h = (p, refl, h)
-  end_ok (stray p) r h = refused _ y _ h
+  end_ok (stray p) r h = absurd cc
 
   pub list_ok : (l : Lexeme) (r q : Outcome Y) → on_comma_or_semicolon l r q ≡ Ok y → (Shows comma_sign l × (r ≡ Ok y)) ⊎ (Shows semicolon_sign l × (q ≡ Ok y))
-  list_ok (word t p) r q h = refused _ y _ h
+  list_ok (word t p) r q h = absurd cc
   list_ok (semicolon t p) r q h = inr (refl, h)
   list_ok (comma t p) r q h = inl (refl, h)
-  list_ok (colon t p) r q h = refused _ y _ h
-  list_ok (finish p) r q h = refused _ y _ h
-  list_ok (stray p) r q h = refused _ y _ h
+  list_ok (colon t p) r q h = absurd cc
+  list_ok (finish p) r q h = absurd cc
+  list_ok (stray p) r q h = absurd cc
 
 pub same_text : (t w : Text) → bytes_eq t w ≡ true → t ≡ w
 same_text t w e = (bytes_eq-Decides t w).0 e
@@ -72,9 +72,9 @@ pub semicolon_read : (n : ℕ) (bs r : Text) → semicolon_from n bs ≡ Ok r �
 semicolon_read n bs r h = let a = semicolon_ok r (lexeme n bs) (Ok (left bs)) h in (a.0, same_ok (left bs) r a.1)
 
 judged_ok : (t u : Text) (x y : Bool) → ◌≡◌ {A = Result Text NameRefusal} (cond x (cond y (Err TooLong) (Ok t)) (Err NotAName)) (Ok u) → (t ≡ u) × (x ≡ true) × (y ≡ false)
-judged_ok t u true true h = let z : ◌≡◌ {A = ℕ} 0 1 = cc in absurd (omega arith)
+judged_ok t u true true h = absurd cc
 judged_ok t u true false h = (cc, refl, refl)
-judged_ok t u false y h = let z : ◌≡◌ {A = ℕ} 0 1 = cc in absurd (omega arith)
+judged_ok t u false y h = absurd cc
 
 pub name_ok : (t : Text) (p : ℕ) (u : Text) → name_at t p ≡ Ok u → (t ≡ u) × (is_name t ≡ true)
 name_ok t p u h =
@@ -83,8 +83,8 @@ name_ok t p u h =
   where
     unrefused : (r : Result Text NameRefusal) → name_by p r ≡ Ok u → r ≡ Ok u
     unrefused (Ok v) e = ap Ok (same_ok v u e)
-    unrefused (Err NotAName) e = refused _ u _ e
-    unrefused (Err TooLong) e = refused _ u _ e
+    unrefused (Err NotAName) e = absurd cc
+    unrefused (Err TooLong) e = absurd cc
 
 -- what an event line at instance i adds to a draft, past the instance's name
 pub data Adds (c : Content) (i : ℕ) : List Sign → Content → Type 0 where

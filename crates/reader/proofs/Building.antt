@@ -14,22 +14,21 @@ use Rattle.chart.proofs.Counting.{count_yes, count_no}
 use Rattle.chart.proofs.Numbering.{at_send, at_receipt}
 use Rattle.chart.proofs.Repeating.{seek_apart}
 use Rattle.reader.specs.Meaning.{further_names, instance_name, message_name, line_of}
-use Rattle.reader.specs.declared.steps.Part.TheVariants.{Instances, Lines}
 use Rattle.reader.proofs.Accepting.{sends, receives}
-use Rattle.reader.proofs.Moving.{Moves, lists, draws, Many, done, again}
+use Rattle.reader.proofs.Moving.{listing, drawing, Moves, lists, draws, Many, done, again}
 
 -- a title and these instances, and no line yet
 abbrev pub only : Text → List Text → Content
 only title instances = record { title = title; instances = instances; messages = []; events = [] }
 
-pub list_built : (title : Text) (ys xs : List Text) → NamesApart (ys ++ xs) → All (λ t. is_name t ≡ true) xs → length (ys ++ xs) ≤ 16 → Many Instances (only title ys) (further_names xs) (only title (ys ++ xs))
-list_built title ys [] apart named few = subst (λ (l : List Text). Many Instances (only title ys) [] (only title l)) (sym (append-nil ys)) done
+pub list_built : (title : Text) (ys xs : List Text) → NamesApart (ys ++ xs) → All (λ t. is_name t ≡ true) xs → length (ys ++ xs) ≤ 16 → Many listing (only title ys) (further_names xs) (only title (ys ++ xs))
+list_built title ys [] apart named few = subst (λ (l : List Text). Many listing (only title ys) [] (only title l)) (sym (append-nil ys)) done
 list_built title ys (t ∷ xs) apart named few =
     let same : (ys ++ t ∷ []) ++ xs ≡ ys ++ t ∷ xs = append_assoc ys (t ∷ []) xs in
     let long = length-append ys (t ∷ xs) in
     let new : among t ys ≡ false = (let h = apart (length ys) (omega arith) in let a = get_or_at ys t xs [] (length ys) refl in let b = take_at ys (t ∷ xs) (length ys) refl in cc) in
     again (lists named.0 (omega arith) new)
-    (subst (λ (l : List Text). Many Instances (only title (ys ++ t ∷ [])) (further_names xs) (only title l)) same
+    (subst (λ (l : List Text). Many listing (only title (ys ++ t ∷ [])) (further_names xs) (only title l)) same
     (list_built title (ys ++ t ∷ []) xs (subst NamesApart (sym same) apart) named.1 (omega (arith, ap length same))))
 
 -- names that are apart stay so at the front
@@ -65,19 +64,19 @@ module _ (c : Content) (wf : WellFormed c) where
   front_names : (k : ℕ) → map (λ (p : Post). p.name) (take k c.messages) ≡ take k (message_names c)
   front_names k = sym (take-map (λ (p : Post). p.name) k c.messages)
 
-  send_built : (es : List Happening) (k : ℕ) → k < length c.messages → Moves (up_to es k) Lines (line_of c (sent k)) (up_to (es ++ sent k ∷ []) (suc k))
+  send_built : (es : List Happening) (k : ℕ) → k < length c.messages → Moves (up_to es k) drawing (line_of c (sent k)) (up_to (es ++ sent k ∷ []) (suc k))
   send_built es k low =
       let e = ends k low in
       let long = length-take-le k c.messages (omega arith) in
       let names-long = length-map c.messages (λ (p : Post). p.name) in
       let new : message_called (up_to es k) (message_name c k) ≡ false =
       (let h = wf.messages_apart k (omega arith) in let a = front_names k in let b = get_or-map (λ (p : Post). p.name) c.messages k nobody [] low in cc) in
-      subst (Moves (up_to es k) Lines (line_of c (sent k)))
+      subst (Moves (up_to es k) drawing (line_of c (sent k)))
       (same_content c.title refl (sym (take_more c.messages k nobody low) ∙ ap (λ j. take j c.messages) (add-one k)) (ap (λ j. es ++ sent j ∷ []) long))
       (draws (named_instance (sender_of c k) e.0) (found_instance (sender_of c k) e.0)
       (sends (named_message k low) (named_instance (receiver_of c k) e.1) new (omega (arith, wf.few_messages)) (found_instance (receiver_of c k) e.1) e.2))
 
-  receipt_built : (es rest : List Happening) (k m : ℕ) → c.events ≡ es ++ received m ∷ rest → m < k → k ≤ length c.messages → Moves (up_to es k) Lines (line_of c (received m)) (up_to (es ++ received m ∷ []) k)
+  receipt_built : (es rest : List Happening) (k m : ℕ) → c.events ≡ es ++ received m ∷ rest → m < k → k ≤ length c.messages → Moves (up_to es k) drawing (line_of c (received m)) (up_to (es ++ received m ∷ []) k)
   receipt_built es rest k m here low high =
       let inside : m < length c.messages = omega arith in
       let e = ends m inside in
@@ -95,13 +94,13 @@ module _ (c : Content) (wf : WellFormed c) where
       draws (named_instance (receiver_of c m) e.1) (found_instance (receiver_of c m) e.1)
       (receives (named_message m inside) (named_instance (sender_of c m) e.0) found new (ap (λ p. p.receiver) same) (found_instance (sender_of c m) e.0 ∙ ap (λ p. Some p.sender) (sym same)))
 
-  pub lines_built : (es rest : List Happening) (k : ℕ) → c.events ≡ es ++ rest → numbered k rest ≡ true → k + count_by is_sending rest ≡ length c.messages → Many Lines (up_to es k) (flat_map (line_of c) rest) c
+  pub lines_built : (es rest : List Happening) (k : ℕ) → c.events ≡ es ++ rest → numbered k rest ≡ true → k + count_by is_sending rest ≡ length c.messages → Many drawing (up_to es k) (flat_map (line_of c) rest) c
   lines_built es [] k here good total =
-      subst (Many Lines (up_to es k) []) (same_content c.title refl (take_all k c.messages (omega arith)) (sym (here ∙ append-nil es))) done
+      subst (Many drawing (up_to es k) []) (same_content c.title refl (take_all k c.messages (omega arith)) (sym (here ∙ append-nil es))) done
   lines_built es (sent m ∷ rest) k here good total =
       let n = at_send k m rest good in
       let one = count_yes is_sending (sent m) rest refl in
-      subst (λ (j : ℕ). Many Lines (up_to es k) (flat_map (line_of c) (sent j ∷ rest)) c) (sym n.0)
+      subst (λ (j : ℕ). Many drawing (up_to es k) (flat_map (line_of c) (sent j ∷ rest)) c) (sym n.0)
       (again (send_built es k (omega arith))
       (lines_built (es ++ sent k ∷ []) rest (suc k) (here ∙ ap (λ j. es ++ sent j ∷ rest) n.0 ∙ sym (append_assoc es (sent k ∷ []) rest)) n.1 (omega arith)))
   lines_built es (received m ∷ rest) k here good total =

@@ -7,16 +7,15 @@ use Rattle.chart.specs.Words.{Text, is_name}
 use Rattle.chart.specs.Content.{Content, NamesApart, WellFormed}
 use Rattle.chart.specs.Drafting.{begun, all_received, times_received}
 use Rattle.chart.proofs.Judging.{all_below_lem}
-use Rattle.reader.specs.Lexemes.{lexeme, left}
+use Rattle.reader.specs.Lexemes.{place_of, lexeme, left}
 use Rattle.reader.specs.Meaning.{Sign, written, semicolon_sign, further_names, line_of, Spells, TextOf}
-use Rattle.reader.specs.Reading.{then, on_end, name_at, semicolon_from, ending, body_from, list_from, chart_from, reading}
+use Rattle.reader.specs.Reading.{then, on_end, ending, heading_from, body_from, chart_from, reading}
 use Rattle.reader.specs.declared.refusals.Refusal.TheVariants.{TextTooLong, NotReceived}
-use Rattle.reader.specs.declared.steps.Part.TheVariants.{Lines}
 use Rattle.reader.proofs.Lexing.{spells_read, end_read}
 use Rattle.reader.proofs.Taking.{spells_takes}
 use Rattle.reader.proofs.Doing.{then_does, word_does, keyword_does, semicolon_taken, name_does, steps_do}
 use Rattle.reader.proofs.Building.{list_built, lines_built}
-use Rattle.reader.proofs.Moving.{Many}
+use Rattle.reader.proofs.Moving.{drawing, Many}
 use Rattle.reader.proofs.Sounding.{frame}
 
 ending_does : (n : ℕ) (bs : Text) → Spells (semicolon_sign ∷ []) bs → ending n bs ≡ Ok tt
@@ -38,7 +37,7 @@ module _ (c : Content) (wf : WellFormed c) (first : Text) (xs : List Text) (list
       let named = subst (All (λ t. is_name t ≡ true)) listed wf.instance_names in
       let all_listed = list_built c.title (first ∷ []) xs (subst NamesApart listed wf.instances_apart) named.1 (omega (arith, ap length listed, wf.few_instances)) in
       let i = steps_do (suc (length bs)) n bs a.0 all_listed a.1 (omega arith) in
-      let all-lined = subst (λ (l : List Text). Many Lines (record { title = c.title; instances = l; messages = []; events = [] }) (flat_map (line_of c) c.events) c) listed (lines_built c wf [] c.events 0 refl wf.is_numbered (omega (arith, wf.all_sent))) in
+      let all-lined = subst (λ (l : List Text). Many drawing (record { title = c.title; instances = l; messages = []; events = [] }) (flat_map (line_of c) c.events) c) listed (lines_built c wf [] c.events 0 refl wf.is_numbered (omega (arith, wf.all_sent))) in
       let l = steps_do (suc (length a.0)) n a.0 b.0 all-lined b.1 (omega arith) in
       then_does _ i.1 ∙ then_does _ l.1
       ∙ cond-true (all_received c) (then (ending n b.0) (λ _. Ok c)) (Err (NotReceived l.0)) received
@@ -53,15 +52,14 @@ module _ (c : Content) (wf : WellFormed c) (first : Text) (xs : List Text) (list
       let d = spells_takes n (left a.0) (semicolon_sign ∷ []) (written (codes "inst") ∷ written first ∷ rest) b.1 in
       let e = spells_takes n d.0 (written (codes "inst") ∷ []) (written first ∷ rest) d.2 in
       let f = spells_read n e.0 (written first) rest e.2 in
-      let w₁ = word_does (lexeme n a.0) c.title (λ t p. then (name_at t p) (λ title. then (semicolon_from n (left a.0)) (list_from n title))) b.0 in
-      let w₂ = word_does (lexeme n e.0) first (λ t p. then (name_at t p) (λ u. body_from n (begun c.title u) (left e.0))) f.0 in
-      cond-false (ltb 16384 n) (Err TextTooLong) (chart_from n bs) (le-ltb 16384 n short)
-      ∙ then_does _ (keyword_does (codes "msc") n bs a.0 a.1)
-      ∙ w₁.1 ∙ then_does _ (name_does c.title w₁.0 wf.titled)
-      ∙ then_does (list_from n c.title) (semicolon_taken n (left a.0) d.0 d.1)
+      let heading : heading_from n bs ≡ Ok (c.title, first, left e.0) =
+      then_does _ (keyword_does (codes "msc") n bs a.0 a.1)
+      ∙ then_does _ (word_does (lexeme n a.0) c.title b.0) ∙ then_does _ (name_does c.title (place_of (lexeme n a.0)) wf.titled)
+      ∙ then_does _ (semicolon_taken n (left a.0) d.0 d.1)
       ∙ then_does _ (keyword_does (codes "inst") n d.0 e.0 e.1)
-      ∙ w₂.1 ∙ then_does _ (name_does first w₂.0 (subst (All (λ t. is_name t ≡ true)) listed wf.instance_names).0)
-      ∙ body_does n (left e.0) f.1
+      ∙ then_does _ (word_does (lexeme n e.0) first f.0) ∙ then_does (λ u. Ok (c.title, u, left e.0)) (name_does first (place_of (lexeme n e.0)) (subst (All (λ t. is_name t ≡ true)) listed wf.instance_names).0) in
+      cond-false (ltb 16384 n) (Err TextTooLong) (chart_from n bs) (le-ltb 16384 n short)
+      ∙ then_does (λ h. body_from n (begun h.0 h.1) h.2) heading ∙ body_does n (left e.0) f.1
 
 -- a well-formed chart has a first instance
 pub reading_complete : (bs : Text) (c : Content) → TextOf c bs → reading bs ≡ Ok c

@@ -1,26 +1,26 @@
--- The reading goes on past a heading that was read.
-use Rattle.std.proofs.Common.{◌≡◌, ℕ, ◌≤◌, ltb, length, Ok, Err, codes, sym, ap, ◌∙◌}
+-- The reading goes on past a heading that was read, and past a body that was read to `endmsc`.
+use Rattle.std.proofs.Common.{◌≡◌, ℕ, ◌≤◌, Bool, true, false, cond, ltb, length, Option, Some, None, Ok, Err, ap, ◌∙◌, sym}
 use Rattle.std.proofs.lemmas.Bool.{cond-false, le-ltb}
-use Rattle.chart.specs.Content.{Content}
-use Rattle.chart.specs.Drafting.{begun}
 use Rattle.chart.specs.Words.{Text}
-use Rattle.reader.specs.Lexemes.{word, lexeme, left}
-use Rattle.reader.specs.Reading.{then, on_word, name_at, keyword_from, semicolon_from, body_from, list_from, chart_from, reading}
-use Rattle.reader.specs.declared.refusals.Refusal.TheVariants.{TextTooLong}
+use Rattle.chart.specs.Content.{Content}
+use Rattle.chart.specs.Drafting.{begun, all_received, finished}
+use Rattle.reader.specs.Reading.{Outcome, then, instance_step, line_step, part_from, ending, body_from, heading_from, chart_from, reading}
+use Rattle.reader.specs.declared.refusals.Refusal.{Refusal}
+use Rattle.reader.specs.declared.refusals.Refusal.TheVariants.{TextTooLong, NotReceived}
 
-pub list_goes : (n : ℕ) (title bs b₁ q t first : Text) (p : ℕ) (c : Content) → Ok b₁ ≡ keyword_from (codes "inst") n bs → word t p ≡ lexeme n b₁ → q ≡ left b₁ → Ok first ≡ name_at t p → c ≡ begun title first → list_from n title bs ≡ body_from n c q
-list_goes n title bs b₁ q t first p c key token rest name draft =
-    ap (λ r. then r (λ b. on_word (lexeme n b) (λ t p. then (name_at t p) (λ u. body_from n (begun title u) (left b))))) (sym key)
-    ∙ ap (λ l. on_word l (λ t p. then (name_at t p) (λ u. body_from n (begun title u) (left b₁)))) (sym token)
-    ∙ ap (λ r. then r (λ u. body_from n (begun title u) (left b₁))) (sym name)
-    ∙ ap (body_from n (begun title first)) (sym rest)
-    ∙ ap (λ d. body_from n d q) (sym draft)
+chart_given : (b : Bool) (c d : Content) (r : Outcome (Unit {0})) (e : Refusal) → ◌≡◌ {A = Option Content} (Some d) (cond b (Some c) None) → cond b (then r (λ _. Ok c)) (Err e) ≡ then r (λ _. Ok d)
+chart_given true c d r e h = let same : c ≡ d = cc in ap (λ x. then r (λ _. Ok x)) same
+chart_given false c d r e h = absurd cc
 
-pub title_goes : (bs b₁ q t title : Text) (p : ℕ) → length bs ≤ 16384 → Ok b₁ ≡ keyword_from (codes "msc") (length bs) bs → word t p ≡ lexeme (length bs) b₁ → q ≡ left b₁ → Ok title ≡ name_at t p → reading bs ≡ then (semicolon_from (length bs) q) (list_from (length bs) title)
-title_goes bs b₁ q t title p short key token rest name =
-    let n : ℕ = length bs in
-    cond-false (ltb 16384 n) (Err TextTooLong) (chart_from n bs) (le-ltb 16384 n short)
-    ∙ ap (λ r. then r (λ b. on_word (lexeme n b) (λ t p. then (name_at t p) (λ u. then (semicolon_from n (left b)) (list_from n u))))) (sym key)
-    ∙ ap (λ l. on_word l (λ t p. then (name_at t p) (λ u. then (semicolon_from n (left b₁)) (list_from n u)))) (sym token)
-    ∙ ap (λ r. then r (λ u. then (semicolon_from n (left b₁)) (list_from n u))) (sym name)
-    ∙ ap (λ b. then (semicolon_from n b) (list_from n title)) (sym rest)
+pub body_goes : (n : ℕ) (c : Content) (bs : Text) (i l : Content × ℕ × Text) (d : Content) → Ok i ≡ part_from instance_step n c bs → Ok l ≡ part_from line_step n i.0 i.2 → Some d ≡ finished l.0
+    → body_from n c bs ≡ then (ending n l.2) (λ _. Ok d)
+body_goes n c bs i l d instances lines given =
+    ap (λ r. then r (λ i. then (part_from line_step n i.0 i.2) (λ l. cond (all_received l.0) (then (ending n l.2) (λ _. Ok l.0)) (Err (NotReceived l.1))))) (sym instances)
+    ∙ ap (λ r. then r (λ l. cond (all_received l.0) (then (ending n l.2) (λ _. Ok l.0)) (Err (NotReceived l.1)))) (sym lines)
+    ∙ chart_given (all_received l.0) l.0 d (ending n l.2) (NotReceived l.1) given
+
+pub heading_goes : (bs : Text) (h : Text × Text × Text) (c : Content) → length bs ≤ 16384 → Ok h ≡ heading_from (length bs) bs → c ≡ begun h.0 h.1 → reading bs ≡ body_from (length bs) c h.2
+heading_goes bs h c short heading draft =
+    cond-false (ltb 16384 (length bs)) (Err TextTooLong) (chart_from (length bs) bs) (le-ltb 16384 (length bs) short)
+    ∙ ap (λ r. then r (λ h. body_from (length bs) (begun h.0 h.1) h.2)) (sym heading)
+    ∙ ap (λ d. body_from (length bs) d h.2) (sym draft)

@@ -10,27 +10,24 @@ use Rattle.chart.proofs.Seeking.{seek_inside}
 use Rattle.reader.specs.Reading.{Outcome, then, name_at, known_by, instance_at, new_message_at, receiver_at, sent_by, sent_message_at}
 use Rattle.reader.specs.declared.refusals.Refusal.{Refusal}
 
-pub refused : {X : Type 0} (e : Refusal) (x : X) (P : Type 0) → ◌≡◌ {A = Outcome X} (Err e) (Ok x) → P
-refused e x P h = let z : ◌≡◌ {A = ℕ} 0 1 = cc in absurd (omega arith)
-
 pub then_ok : {X Y : Type 0} (r : Outcome X) (f : X → Outcome Y) (y : Y) → then r f ≡ Ok y → (x : X) × (r ≡ Ok x) × (f x ≡ Ok y)
 then_ok (Ok x) f y h = (x, refl, h)
-then_ok (Err e) f y h = refused e y _ h
+then_ok (Err e) f y h = absurd cc
 
 -- a test that must fail, and one that must pass
 pub fails : {Y : Type 0} (b : Bool) (e : Refusal) (r : Outcome Y) (y : Y) → cond b (Err e) r ≡ Ok y → (b ≡ false) × (r ≡ Ok y)
-fails true e r y h = refused e y _ h
+fails true e r y h = absurd cc
 fails false e r y h = (refl, h)
 
 pub passes : {Y : Type 0} (b : Bool) (e : Refusal) (r : Outcome Y) (y : Y) → cond b r (Err e) ≡ Ok y → (b ≡ true) × (r ≡ Ok y)
 passes true e r y h = (refl, h)
-passes false e r y h = refused e y _ h
+passes false e r y h = absurd cc
 
 pub same_ok : {X : Type 0} (x y : X) → ◌≡◌ {A = Outcome X} (Ok x) (Ok y) → x ≡ y
 same_ok x y h = cc
 
 pub known_ok : (p : ℕ) (o : Option ℕ) (i : ℕ) → known_by p o ≡ Ok i → o ≡ Some i
-known_ok p None i h = refused _ i _ h
+known_ok p None i h = absurd cc
 known_ok p (Some j) i h = ap Some (same_ok j i h)
 
 -- an instance that was found is one of the list
@@ -58,7 +55,7 @@ new_message_ok c t p u h =
     (a.1 ∙ ap Ok e, ap (message_called c) (sym e) ∙ b.0, leb-false 64 _ d.0)
 
 sent_by_ok : (c : Content) (r p : ℕ) (o : Option ℕ) (m : ℕ) → sent_by c r p o ≡ Ok m → (o ≡ Some m) × (ltb 0 (times_received c m) ≡ false) × (receiver_of c m ≡ r)
-sent_by_ok c r p None m h = refused _ m _ h
+sent_by_ok c r p None m h = absurd cc
 sent_by_ok c r p (Some k) m h =
     let a = fails (ltb 0 (times_received c k)) _ (cond (eqb (receiver_of c k) r) (Ok k) (Err _)) m h in
     let b = passes (eqb (receiver_of c k) r) _ (Ok k) m a.1 in

@@ -1,8 +1,8 @@
 -- A token that was read is one that the text spells, and the other way round.
-use Rattle.std.proofs.Common.{◌≡◌, ℕ, ◌+◌, ◌-◌, Bool, true, false, cond, ◌||◌, eqb, List, [], ◌∷◌, ◌++◌, length, take, drop, sym, refl, ap, ◌∙◌, subst, inl, inr, ⊎_elim, one-add, arith}
+use Rattle.std.proofs.Common.{◌≡◌, ℕ, ◌+◌, ◌-◌, Bool, true, false, cond, ◌||◌, eqb, List, [], ◌∷◌, ◌++◌, length, take, drop, sym, refl, ap, ◌∙◌, subst, inl, inr, one-add, arith}
 use Rattle.std.specs.List.{prefix_len}
 use Rattle.std.proofs.lemmas.List.{take-append-drop, append-nil}
-use Rattle.std.proofs.lemmas.Bool.{cases_Bool, cond-true, cond-false, and_parts, and_from, eqb-true, or_cases}
+use Rattle.std.proofs.lemmas.Bool.{cases_Bool, cond-true, cond-false, and_parts, and_from, eqb-true}
 use Rattle.std.proofs.lemmas.Bool.Decides.{nat_tests}
 use Rattle.chart.specs.Words.{Text, is_word_byte, all_of}
 use Rattle.reader.specs.Lexemes.{Lexeme, word, semicolon, comma, colon, finish, stray, is_blank, past, front, token_at, beyond, lexeme, left}
@@ -90,17 +90,13 @@ no_word q b w = on (eqb b 59) (eqb b 44) (eqb b 58)
     on false false false h = h
 
 which_mark : (q b m : ℕ) → Shows (mark m) (by_mark q b) → (b ≡ m) × (is_mark m ≡ true)
-which_mark q b m h =
-    elim (cases_Bool (eqb b 59)) [
-      | inl e ↦ (let s = subst (Shows (mark m)) (cond-true (eqb b 59) (semicolon (b ∷ []) q) _ e) h in (eqb-true b 59 e ∙ sym s, ap is_mark s))
-      | inr n₁ ↦ elim (cases_Bool (eqb b 44)) [
-        | inl e ↦ (let s = subst (Shows (mark m)) (cond-false (eqb b 59) (semicolon (b ∷ []) q) _ n₁ ∙ cond-true (eqb b 44) (comma (b ∷ []) q) _ e) h in (eqb-true b 44 e ∙ sym s, ap is_mark s))
-        | inr n₂ ↦ elim (cases_Bool (eqb b 58)) [
-          | inl e ↦ (let s = subst (Shows (mark m)) (cond-false (eqb b 59) (semicolon (b ∷ []) q) _ n₁ ∙ cond-false (eqb b 44) (comma (b ∷ []) q) _ n₂ ∙ cond-true (eqb b 58) (colon (b ∷ []) q) _ e) h in (eqb-true b 58 e ∙ sym s, ap is_mark s))
-          | inr n₃ ↦ absurd (subst (Shows (mark m)) (cond-false (eqb b 59) (semicolon (b ∷ []) q) _ n₁ ∙ cond-false (eqb b 44) (comma (b ∷ []) q) _ n₂ ∙ cond-false (eqb b 58) (colon (b ∷ []) q) _ n₃) h)
-        ]
-      ]
-    ]
+which_mark q b m = on (eqb b 59) (eqb b 44) (eqb b 58) refl refl refl
+  where
+    on : (x y z : Bool) → eqb b 59 ≡ x → eqb b 44 ≡ y → eqb b 58 ≡ z → Shows (mark m) (cond x (semicolon (b ∷ []) q) (cond y (comma (b ∷ []) q) (cond z (colon (b ∷ []) q) (stray q)))) → (b ≡ m) × (is_mark m ≡ true)
+    on true y z d e f h = (eqb-true b 59 d ∙ sym h, ap is_mark h)
+    on false true z d e f h = (eqb-true b 44 e ∙ sym h, ap is_mark h)
+    on false false true d e f h = (eqb-true b 58 f ∙ sym h, ap is_mark h)
+    on false false false d e f h = absurd h
 
 -- a word at the front of a text
 word_at : (q : ℕ) (v w : Text) → Shows (written w) (token_at q v) → (is_word w ≡ true) × (v ≡ w ++ beyond v) × (begins is_word_byte (beyond v) ≡ false)
@@ -129,7 +125,7 @@ mark_at q m (b ∷ r) h =
 
 -- and the other way round
 at_word : (q : ℕ) (w rest : Text) → is_word w ≡ true → begins is_word_byte rest ≡ false → Shows (written w) (token_at q (w ++ rest)) × (beyond (w ++ rest) ≡ rest) × (begins is_blank (w ++ rest) ≡ false)
-at_word q [] rest good stop = let z : ◌≡◌ {A = Bool} true false = sym good in absurd (let o : ◌≡◌ {A = ℕ} 0 1 = cc in omega arith)
+at_word q [] rest good stop = absurd cc
 at_word q (b ∷ w) rest good stop =
     let first = (and_parts (is_word_byte b) (all_of is_word_byte w) good).0 in (
       subst (Shows (written (b ∷ w))) (sym (cond-true (is_word_byte b) (word (front is_word_byte (b ∷ (w ++ rest))) q) (by_mark q b) first)) (run_front is_word_byte (b ∷ w) rest good stop),
@@ -138,14 +134,13 @@ at_word q (b ∷ w) rest good stop =
     )
 
 by_mark_lem : (q m : ℕ) → is_mark m ≡ true → Shows (mark m) (by_mark q m)
-by_mark_lem q m good =
-    ⊎_elim
-    (λ (e : eqb m 59 ≡ true). subst (Shows (mark m)) (sym (cond-true (eqb m 59) (semicolon (m ∷ []) q) _ e)) (eqb-true m 59 e))
-    (λ (o : (eqb m 44 || eqb m 58) ≡ true). ⊎_elim
-    (λ (e : eqb m 44 ≡ true). subst (Shows (mark m)) (sym (cond-false (eqb m 59) (semicolon (m ∷ []) q) _ (grind (arith, nat_tests)) ∙ cond-true (eqb m 44) (comma (m ∷ []) q) _ e)) (eqb-true m 44 e))
-    (λ (e : eqb m 58 ≡ true). subst (Shows (mark m)) (sym (cond-false (eqb m 59) (semicolon (m ∷ []) q) _ (grind (arith, nat_tests)) ∙ cond-false (eqb m 44) (comma (m ∷ []) q) _ (grind (arith, nat_tests)) ∙ cond-true (eqb m 58) (colon (m ∷ []) q) _ e)) (eqb-true m 58 e))
-    (or_cases (eqb m 44) (eqb m 58) o))
-    (or_cases (eqb m 59) (eqb m 44 || eqb m 58) good)
+by_mark_lem q m = on (eqb m 59) (eqb m 44) (eqb m 58) refl refl refl
+  where
+    on : (x y z : Bool) → eqb m 59 ≡ x → eqb m 44 ≡ y → eqb m 58 ≡ z → (x || (y || z)) ≡ true → Shows (mark m) (cond x (semicolon (m ∷ []) q) (cond y (comma (m ∷ []) q) (cond z (colon (m ∷ []) q) (stray q))))
+    on true y z d e f good = eqb-true m 59 d
+    on false true z d e f good = eqb-true m 44 e
+    on false false true d e f good = eqb-true m 58 f
+    on false false false d e f good = absurd cc
 
 at_mark : (q m : ℕ) (rest : Text) → is_mark m ≡ true → Shows (mark m) (token_at q (m ∷ rest)) × (beyond (m ∷ rest) ≡ rest) × (begins is_blank (m ∷ rest) ≡ false)
 at_mark q m rest good =

@@ -1,11 +1,11 @@
-pub mod Walking
+pub mod Stepping
 pub mod Inversion
 pub mod Drawing
+pub mod Goings
 pub mod Lexing
 pub mod Taking
 pub mod Accepting
 pub mod Moving
-pub mod Goings
 pub mod Staging
 pub mod Sounding
 pub mod Doing

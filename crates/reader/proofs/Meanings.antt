@@ -6,7 +6,7 @@ use Rattle.reader.specs.Answers.{ChartRead, PlaceRead, PlaceMeans, ReadsTexts}
 use Rattle.reader.specs.Reading.{Outcome, reading}
 use Rattle.reader.specs.declared.reading.ReadError.{ReadError}
 use Rattle.reader.specs.declared.reading.ReadError.TheVariants.{Refused, OutOfMemory}
-use Rattle.reader.proofs.Inversion.{refused, same_ok}
+use Rattle.reader.proofs.Inversion.{same_ok}
 use Rattle.reader.proofs.Sounding.{reading_sound}
 use Rattle.reader.proofs.Completing.{reading_complete}
 
@@ -17,7 +17,7 @@ place_refused OutOfMemory c s h = tt
 
 pub place_means : (r : Result (Unit {0}) ReadError) (c : Content) (bs : Text) → PlaceRead r c (reading bs) → PlaceMeans r c bs
 place_means (Ok u) c bs h = record { is_text = reading_sound bs c h; only = λ d t. same_ok d c (sym (reading_complete bs d t) ∙ h) }
-place_means (Err (Refused e)) c bs h = λ d t. refused e d _ (sym h ∙ reading_complete bs d t)
+place_means (Err (Refused e)) c bs h = λ d t. cc (reading_complete bs d t)
 place_means (Err OutOfMemory) c bs h = tt
 
 pub reads_texts : (bs : Text) → ReadsTexts bs

@@ -8,13 +8,12 @@ use Rattle.chart.specs.Content.{Content}
 use Rattle.chart.specs.Drafting.{begun, all_received}
 use Rattle.reader.specs.Lexemes.{lexeme, left}
 use Rattle.reader.specs.Meaning.{Sign, written, semicolon_sign, further_names, names, line_of, Spells, TextOf}
-use Rattle.reader.specs.Reading.{name_at, keyword_from, semicolon_from, part_from, ending, body_from, list_from, chart_from, reading}
-use Rattle.reader.specs.declared.steps.Part.TheVariants.{Instances, Lines}
+use Rattle.reader.specs.Reading.{name_at, keyword_from, semicolon_from, instance_step, line_step, part_from, ending, heading_from, body_from, chart_from, reading}
 use Rattle.reader.proofs.Inversion.{then_ok, fails, passes, same_ok}
 use Rattle.reader.proofs.Lexing.{Shows, read_end}
 use Rattle.reader.proofs.Taking.{Takes, takes_then, takes_spells}
 use Rattle.reader.proofs.Accepting.{word_ok, end_ok, keyword_ok, semicolon_read, name_ok}
-use Rattle.reader.proofs.Moving.{steps_took}
+use Rattle.reader.proofs.Moving.{listing, drawing, steps_took}
 use Rattle.reader.proofs.Staging.{Stage, begun_stage, many_stage, all_formed, instances_read, lines_read}
 
 -- the tokens of a chart, by its title, its instances and the tokens of its lines
@@ -34,13 +33,13 @@ body_sound : (n : ℕ) (title first bs : Text) (d : Content) → body_from n (be
     → (xs : List Text) × (Stage d) × (all_received d ≡ true) × (d.title ≡ title) × (d.instances ≡ first ∷ xs)
     × Spells (further_names xs ++ semicolon_sign ∷ (flat_map (line_of d) d.events ++ written (codes "endmsc") ∷ semicolon_sign ∷ [])) bs
 body_sound n title first bs d h stage =
-    let pi = then_ok (part_from Instances n (begun title first) bs) _ d h in
-    let pl = then_ok (part_from Lines n pi.0.0 pi.0.2) _ d pi.2 in
+    let pi = then_ok (part_from instance_step n (begun title first) bs) _ d h in
+    let pl = then_ok (part_from line_step n pi.0.0 pi.0.2) _ d pi.2 in
     let ar = passes (all_received pl.0.0) _ _ d pl.2 in
     let en = then_ok (ending n pl.0.2) _ d ar.1 in
     let same : pl.0.0 ≡ d = same_ok pl.0.0 d en.2 in
-    let ti = steps_took Instances (suc (length bs)) n (begun title first) bs pi.0 pi.1 in
-    let tl = steps_took Lines (suc (length pi.0.2)) n pi.0.0 pi.0.2 pl.0 pl.1 in
+    let ti = steps_took listing (suc (length bs)) n (begun title first) bs pi.0 pi.1 in
+    let tl = steps_took drawing (suc (length pi.0.2)) n pi.0.0 pi.0.2 pl.0 pl.1 in
     let listed = instances_read ti.2 in
     let lined = lines_read tl.2 in
     let events : flat_map (line_of pl.0.0) pl.0.0.events ≡ tl.0 = ap (flat_map (line_of pl.0.0)) (lined.more_events ∙ ap (λ x. x.events ++ lined.happenings) listed.1) ∙ sym lined.spelled in
@@ -74,16 +73,18 @@ pub reading_sound : (bs : Text) (c : Content) → reading bs ≡ Ok c → TextOf
 reading_sound bs c h =
     let n : ℕ = length bs in
     let a = fails (ltb 16384 n) _ (chart_from n bs) c h in
-    let k₁ = then_ok (keyword_from (codes "msc") n bs) _ c a.1 in
-    let w₁ = word_ok c (lexeme n k₁.0) _ k₁.2 in
-    let n₁ = then_ok (name_at w₁.0 w₁.1) _ c w₁.3 in
-    let s₁ = then_ok (semicolon_from n (left k₁.0)) (list_from n n₁.0) c n₁.2 in
-    let k₂ = then_ok (keyword_from (codes "inst") n s₁.0) _ c s₁.2 in
-    let w₂ = word_ok c (lexeme n k₂.0) _ k₂.2 in
-    let n₂ = then_ok (name_at w₂.0 w₂.1) _ c w₂.3 in
+    let hd = then_ok (heading_from n bs) _ c a.1 in
+    let k₁ = then_ok (keyword_from (codes "msc") n bs) _ hd.0 hd.1 in
+    let w₁ = word_ok hd.0 (lexeme n k₁.0) _ k₁.2 in
+    let n₁ = then_ok (name_at w₁.0 w₁.1) _ hd.0 w₁.3 in
+    let s₁ = then_ok (semicolon_from n (left k₁.0)) _ hd.0 n₁.2 in
+    let k₂ = then_ok (keyword_from (codes "inst") n s₁.0) _ hd.0 s₁.2 in
+    let w₂ = word_ok hd.0 (lexeme n k₂.0) _ k₂.2 in
+    let n₂ = then_ok (name_at w₂.0 w₂.1) _ hd.0 w₂.3 in
+    let rest : body_from n (begun n₁.0 n₂.0) (left k₂.0) ≡ Ok c = ap (λ x. body_from n (begun x.0 x.1) x.2) (same_ok _ hd.0 n₂.2) ∙ hd.2 in
     let title = name_ok w₁.0 w₁.1 n₁.0 n₁.1 in
     let first = name_ok w₂.0 w₂.1 n₂.0 n₂.1 in
-    let b = body_sound n n₁.0 n₂.0 (left k₂.0) c n₂.2 (begun_stage n₁.0 n₂.0 (subst (λ (t : Text). is_name t ≡ true) title.0 title.1) (subst (λ (t : Text). is_name t ≡ true) first.0 first.1)) in
+    let b = body_sound n n₁.0 n₂.0 (left k₂.0) c rest (begun_stage n₁.0 n₂.0 (subst (λ (t : Text). is_name t ≡ true) title.0 title.1) (subst (λ (t : Text). is_name t ≡ true) first.0 first.1)) in
     let lines : List Sign = flat_map (line_of c) c.events in
     let whole = heading_spells n bs k₁.0 s₁.0 k₂.0 w₁.0 w₂.0 (further_names b.0 ++ semicolon_sign ∷ (lines ++ written (codes "endmsc") ∷ semicolon_sign ∷ []))
     (keyword_ok (codes "msc") n bs k₁.0 k₁.1) w₁.2 (semicolon_read n (left k₁.0) s₁.0 s₁.1) (keyword_ok (codes "inst") n s₁.0 k₂.0 k₂.1) w₂.2 b.5 in

@@ -12,10 +12,8 @@ use Rattle.chart.proofs.Additions.{Growing, instance_grows, message_grows, recei
 use Rattle.chart.proofs.Judging.{joined as joined-ends, each_below}
 use Rattle.chart.proofs.Seeking.{seek_inside, seek_is}
 use Rattle.reader.specs.Meaning.{Sign, written, semicolon_sign, comma_sign, colon_sign, further_names, line_of}
-use Rattle.reader.specs.declared.steps.Part.{Part}
-use Rattle.reader.specs.declared.steps.Part.TheVariants.{Instances, Lines}
 use Rattle.reader.proofs.Accepting.{Adds, sends, receives}
-use Rattle.reader.proofs.Moving.{Moves, lists, draws, Many, done, again}
+use Rattle.reader.proofs.Moving.{Part, listing, drawing, Moves, lists, draws, Many, done, again}
 
 abbrev Named : List Text → Type 0
 Named ts = All (λ t. is_name t ≡ true) ts
@@ -110,7 +108,7 @@ all_formed c s all =
     }
 
 -- the list of instances: the names that were added, and their tokens
-pub instances_read : {c d : Content} {ts : List Sign} → Many Instances c ts d
+pub instances_read : {c d : Content} {ts : List Sign} → Many listing c ts d
     → (xs : List Text) × (d ≡ record { title = c.title; instances = c.instances ++ xs; messages = c.messages; events = c.events }) × (ts ≡ further_names xs)
 instances_read {c} done = ([], ap (λ l. record { title = c.title; instances = l; messages = c.messages; events = c.events }) (sym (append-nil c.instances)), refl)
 instances_read {c} (again (lists {t} name few new) rest) =
@@ -178,7 +176,7 @@ line_read d {c} {c'} {i} t posts owner (receives {u} {v} {m} name other found ne
           (sym (ap (λ q. get_or d.instances q.sender []) here ∙ ap (λ l. get_or l (sender_of c m) []) instances ∙ seek_is v c.instances (sender_of c m) from')),
     )
 
-pub lines_read : {c d : Content} {ts : List Sign} → Many Lines c ts d → Grown c d ts
+pub lines_read : {c d : Content} {ts : List Sign} → Many drawing c ts d → Grown c d ts
 lines_read {c} done =
     record { posts = []; happenings = []; same_title = refl; same_instances = refl; more_messages = sym (append-nil c.messages); more_events = sym (append-nil c.events); spelled = refl }
 lines_read {c} {d} (again {d = c'} {us = us} (draws {t} {i} {ts} name found adds) rest) =

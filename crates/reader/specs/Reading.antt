@@ -12,8 +12,6 @@ use Rattle.chart.specs.declared.names.NameRefusal.TheVariants.{NotAName, TooLong
 use Rattle.chart.specs.declared.drafting.InstanceRefusal.{InstanceRefusal}
 use Rattle.chart.specs.declared.drafting.InstanceRefusal.TheVariants as instance
 use Rattle.reader.specs.Lexemes.{Lexeme, word, semicolon, comma, colon, finish, stray, place_of, lexeme, left}
-use Rattle.reader.specs.declared.steps.Part.{Part}
-use Rattle.reader.specs.declared.steps.Part.TheVariants.{Instances, Lines}
 use Rattle.reader.specs.declared.refusals.Refusal.{Refusal}
 use Rattle.reader.specs.declared.refusals.Refusal.TheVariants.{TextTooLong, Unexpected, NameTooLong, TooManyInstances, NamedTwice, UnknownInstance, SentToItself, TooManyMessages, NotAsSent, NotReceived}
 
@@ -26,13 +24,17 @@ abbrev pub then : {X Y : Type 0} → Outcome X → (X → Outcome Y) → Outcome
 then (Ok x) f = f x
 then (Err e) f = Err e
 
+-- the word that a token is, and its place
+abbrev pub word_of : Lexeme → Outcome (Text × ℕ)
+word_of (word t p) = Ok (t, p)
+word_of (semicolon t p) = Err (Unexpected p)
+word_of (comma t p) = Err (Unexpected p)
+word_of (colon t p) = Err (Unexpected p)
+word_of (finish p) = Err (Unexpected p)
+word_of (stray p) = Err (Unexpected p)
+
 abbrev pub on_word : {Y : Type 0} → Lexeme → (Text → ℕ → Outcome Y) → Outcome Y
-on_word (word t p) f = f t p
-on_word (semicolon t p) f = Err (Unexpected p)
-on_word (comma t p) f = Err (Unexpected p)
-on_word (colon t p) f = Err (Unexpected p)
-on_word (finish p) f = Err (Unexpected p)
-on_word (stray p) f = Err (Unexpected p)
+on_word l f = then (word_of l) (λ w. f w.0 w.1)
 
 abbrev pub on_semicolon : {Y : Type 0} → Lexeme → Outcome Y → Outcome Y
 on_semicolon (word t p) y = Err (Unexpected p)
@@ -167,22 +169,21 @@ line_step n c bs =
     cond (bytes_eq t (codes "endmsc")) (Ok (ended c p (left bs)))
     (then (instance_at c t p) (λ i. then (event_line n c i (left bs)) (λ r. Ok (more r.0 r.1)))))
 
--- which part it is
-abbrev pub step_of : Part → ℕ → Content → Text → Outcome Step
-step_of Instances n c bs = instance_step n c bs
-step_of Lines n c bs = line_step n c bs
-
 abbrev pub go_on : (Content → Text → Outcome (Content × ℕ × Text)) → Step → Outcome (Content × ℕ × Text)
 go_on go (more c bs) = go c bs
 go_on go (ended c p bs) = Ok (c, p, bs)
 
--- step by step to the end of the part; each step takes a byte, so f only has to be large enough
-abbrev pub steps_from : Part → ℕ → ℕ → Content → Text → Outcome (Content × ℕ × Text)
-steps_from part zero n c bs = Err TextTooLong
-steps_from part (suc f) n c bs = then (step_of part n c bs) (go_on (steps_from part f n))
+-- what one step of a part does, where bs is left of a text of n bytes
+abbrev pub Stepping : Type 0
+Stepping = ℕ → Content → Text → Outcome Step
 
-abbrev pub part_from : Part → ℕ → Content → Text → Outcome (Content × ℕ × Text)
-part_from part n c bs = steps_from part (suc (length bs)) n c bs
+-- step by step to the end of the part; each step takes a byte, so f only has to be large enough
+abbrev pub steps_from : Stepping → ℕ → ℕ → Content → Text → Outcome (Content × ℕ × Text)
+steps_from step zero n c bs = Err TextTooLong
+steps_from step (suc f) n c bs = then (step n c bs) (go_on (steps_from step f n))
+
+abbrev pub part_from : Stepping → ℕ → Content → Text → Outcome (Content × ℕ × Text)
+part_from step n c bs = steps_from step (suc (length bs)) n c bs
 
 -- past `endmsc`: a semicolon, and then blanks only
 abbrev pub ending : ℕ → Text → Outcome (Unit {0})
@@ -191,22 +192,22 @@ ending n bs = then (semicolon_from n bs) (λ bs₁. on_end (lexeme n bs₁) (Ok 
 -- past the first name of the list: further names, event lines, `endmsc` `;`
 abbrev pub body_from : ℕ → Content → Text → Outcome Content
 body_from n c bs =
-    then (part_from Instances n c bs) (λ i.
-    then (part_from Lines n i.0 i.2) (λ l.
+    then (part_from instance_step n c bs) (λ i.
+    then (part_from line_step n i.0 i.2) (λ l.
     cond (all_received l.0) (then (ending n l.2) (λ _. Ok l.0)) (Err (NotReceived l.1))))
 
--- past the title line: `inst`, the first name of the list, and the rest
-abbrev pub list_from : ℕ → Text → Text → Outcome Content
-list_from n title bs =
-    then (keyword_from (codes "inst") n bs) (λ bs₁.
-    on_word (lexeme n bs₁) (λ t p. then (name_at t p) (λ first. body_from n (begun title first) (left bs₁))))
-
--- `msc` title `;`, and the rest
-abbrev pub chart_from : ℕ → Text → Outcome Content
-chart_from n bs =
+-- `msc` title `;`, `inst` and the first name of the list: the two names, and what is left
+abbrev pub heading_from : ℕ → Text → Outcome (Text × Text × Text)
+heading_from n bs =
     then (keyword_from (codes "msc") n bs) (λ bs₁.
     on_word (lexeme n bs₁) (λ t p. then (name_at t p) (λ title.
-    then (semicolon_from n (left bs₁)) (list_from n title))))
+    then (semicolon_from n (left bs₁)) (λ bs₂.
+    then (keyword_from (codes "inst") n bs₂) (λ bs₃.
+    on_word (lexeme n bs₃) (λ t₁ p₁. then (name_at t₁ p₁) (λ first. Ok (title, first, left bs₃))))))))
+
+-- the heading, and the rest
+abbrev pub chart_from : ℕ → Text → Outcome Content
+chart_from n bs = then (heading_from n bs) (λ h. body_from n (begun h.0 h.1) h.2)
 
 -- the chart that a text gives, or why it comes back
 abbrev pub reading : Text → Outcome Content

@@ -1,16 +1,14 @@
 // Reading a whole chart text into a chart place.
 ghost use Rattle.std.specs.Prelude.{◌≡◌, OnErr};
 ghost use Rattle.chart.specs.Drafted.{drafted};
-ghost use Rattle.chart.specs.Names.{text_of};
 ghost use Rattle.chart.specs.Charted.{content};
-ghost use Rattle.reader.specs.Answers.{content_read, ChartRead, PlaceRead, PlaceMeans, ReadsTexts};
-ghost use Rattle.reader.specs.Reading.{reading, list_from, body_from, ending};
+ghost use Rattle.reader.specs.Answers.{heading_read, content_read, ChartRead, PlaceRead, PlaceMeans, ReadsTexts};
+ghost use Rattle.reader.specs.Reading.{reading, heading_from, body_from, ending};
 ghost use Rattle.reader.specs.declared.reading.ReadError.TheVariants.{Refused, OutOfMemory};
 
-use super::lines::{keyword, name_at, semicolon, unwanted};
+use super::lines::Drawing;
 use super::refusals::Refusal;
-use super::steps::{Part, whole_part};
-use super::tokens::{Token, next_token};
+use super::tokens::{Scanner, Token};
 use chart::charting::Chart;
 use chart::drafting::Draft;
 use chart::names::Name;
@@ -42,44 +40,44 @@ impl From<AllocError> for ReadError {
     }
 }
 
-// Past `endmsc`: a semicolon, and then blanks only.
-fn closing(rest: &[u8], whole: usize) -> Result<(), Refusal>
-    ensures { result ≡ ending whole rest.now }
+// The title line, and the list of instances up to its first name: the two names.
+fn heading(scanner: &mut Scanner<'_>) -> Result<(Name, Name), Refusal>
+    ensures names { heading_read result scanner.new.rest.now ≡ heading_from scanner.old.whole scanner.old.rest.now }
+    ensures whole { scanner.new.whole ≡ scanner.old.whole }
 {
-    let rest = semicolon(rest, whole)?;
-    let (token, _) = next_token(rest, whole);
+    scanner.keyword(b"msc")?;
+    let title = scanner.word()?.name()?;
+    scanner.semicolon()?;
+    scanner.keyword(b"inst")?;
+    let first = scanner.word()?.name()?;
+    Ok((title, first))
+}
+
+// Past `endmsc`: a semicolon, and then blanks only.
+fn closing(mut scanner: Scanner<'_>) -> Result<(), Refusal>
+    ensures { result ≡ ending scanner.entry.whole scanner.entry.rest.now }
+{
+    scanner.semicolon()?;
+    let token = scanner.next();
     let Token::End(_) = token else {
-        return Err(unwanted(&token));
+        return Err(token.unexpected());
     };
     Ok(())
 }
 
 // Past the first name of the list: the other instances, the lines, and the end.
-fn read_body(draft: Draft, rest: &[u8], whole: usize) -> Result<Chart, Refusal>
-    ensures { content_read result ≡ body_from whole (drafted draft) rest.now }
+fn read_body(draft: Draft, scanner: Scanner<'_>) -> Result<Chart, Refusal>
+    ensures { content_read result ≡ body_from scanner.entry.whole (drafted draft) scanner.entry.rest.now }
 {
-    let mut draft = draft;
-    let (_, rest) = whole_part(Part::Instances, &mut draft, rest, whole)?;
-    let (at, rest) = whole_part(Part::Lines, &mut draft, rest, whole)?;
+    let mut drawing = Drawing { draft, scanner };
+    drawing.instances()?;
+    let at = drawing.lines()?;
+    let Drawing { draft, scanner } = drawing;
+    // `ok_or(..)?` was tried: it is the same test in one line, with a goal more, which was not answered.
     let Some(chart) = draft.finish() else {
         return Err(Refusal::NotReceived { at });
     };
-    closing(rest, whole)?;
-    Ok(chart)
-}
-
-// Past the title line.
-fn read_list(heap: Global, title: Name, rest: &[u8], whole: usize) -> Result<Chart, ReadError>
-    ensures { ChartRead result (list_from whole (text_of title) rest.now) }
-{
-    let rest = keyword(rest, whole, b"inst")?;
-    let (token, rest) = next_token(rest, whole);
-    let Token::Word(word, at) = token else {
-        return Err(ReadError::Refused(unwanted(&token)));
-    };
-    let first = name_at(word, at)?;
-    let draft = Draft::new(heap, title, first)?;
-    let chart = read_body(draft, rest, whole)?;
+    closing(scanner)?;
     Ok(chart)
 }
 
@@ -88,16 +86,13 @@ fn read_chart(heap: Global, text: &[u8]) -> Result<Chart, ReadError>
 {
     let whole = text.len();
     if whole > TEXT_LIMIT {
-        return Err(ReadError::Refused(Refusal::TextTooLong));
+        return Err(ReadError::from(Refusal::TextTooLong));
     }
-    let rest = keyword(text, whole, b"msc")?;
-    let (token, rest) = next_token(rest, whole);
-    let Token::Word(word, at) = token else {
-        return Err(ReadError::Refused(unwanted(&token)));
-    };
-    let title = name_at(word, at)?;
-    let rest = semicolon(rest, whole)?;
-    read_list(heap, title, rest, whole)
+    let mut scanner = Scanner { rest: text, whole };
+    let (title, first) = heading(&mut scanner)?;
+    let draft = Draft::new(heap, title, first)?;
+    let chart = read_body(draft, scanner)?;
+    Ok(chart)
 }
 
 // Fills the place with the chart of the text, or says why not and leaves it as it was.
@@ -107,11 +102,7 @@ pub fn read(place: &mut Chart, text: &[u8]) -> Result<(), ReadError>
     ensures meaning { PlaceMeans result (content place.new) text.now }
     ensures exact { ReadsTexts text.now }
 {
-    match read_chart(place.allocator(), text) {
-        Ok(chart) => {
-            *place = chart;
-            Ok(())
-        }
-        Err(error) => Err(error),
-    }
+    let chart = read_chart(place.allocator(), text)?;
+    *place = chart;
+    Ok(())
 }

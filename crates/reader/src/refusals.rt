@@ -30,6 +30,7 @@ pub enum Refusal {
 }
 
 impl Refusal {
+    // A rule of the project (docs/CHART_TEXT.md): each refusal has its number.
     pub fn number(self) -> u8
         ensures { result ≡ number self }
     {
@@ -47,20 +48,21 @@ impl Refusal {
         }
     }
 
+    // A rule of the project (docs/CHART_TEXT.md): each refusal has its place; of a text too long it is the limit.
     pub fn place(self) -> usize
         ensures { result ≡ place self }
     {
         match self {
             Refusal::TextTooLong => TEXT_LIMIT,
-            Refusal::Unexpected { at } => at,
-            Refusal::NameTooLong { at } => at,
-            Refusal::TooManyInstances { at } => at,
-            Refusal::NamedTwice { at } => at,
-            Refusal::UnknownInstance { at } => at,
-            Refusal::SentToItself { at } => at,
-            Refusal::TooManyMessages { at } => at,
-            Refusal::NotAsSent { at } => at,
-            Refusal::NotReceived { at } => at,
+            Refusal::Unexpected { at }
+            | Refusal::NameTooLong { at }
+            | Refusal::TooManyInstances { at }
+            | Refusal::NamedTwice { at }
+            | Refusal::UnknownInstance { at }
+            | Refusal::SentToItself { at }
+            | Refusal::TooManyMessages { at }
+            | Refusal::NotAsSent { at }
+            | Refusal::NotReceived { at } => at,
         }
     }
 }

@@ -1,91 +1,73 @@
 // The parts of a chart text that repeat: the list of instances, and the event lines.
 ghost use Rattle.std.specs.Prelude.{◌≡◌};
-ghost use Rattle.chart.specs.Drafted.{drafted};
-ghost use Rattle.reader.specs.Answers.{step_read, part_read};
-ghost use Rattle.reader.specs.Reading.{instance_step, line_step, step_of, part_from};
+ghost use Rattle.reader.specs.Answers.{step_read, part_read, at, Stepped, Follows};
+ghost use Rattle.reader.specs.Reading.{Stepping, instance_step, line_step, part_from};
 
-use super::lines::{event_line, further_instance, instance_at, unwanted};
+use super::lines::Drawing;
 use super::refusals::Refusal;
-use super::tokens::{Token, next_token};
-use chart::drafting::Draft;
-use chart::words::same_text;
+use super::tokens::Token;
 
-#[derive(Clone, Copy)]
-pub enum Part {
-    Instances,
-    Lines,
-}
-
-// What is left after one step: the part goes on, or has ended at this place.
-#[derive(Clone, Copy)]
-pub enum Step<'a> {
-    More(&'a [u8]),
-    Ended(usize, &'a [u8]),
-}
-
-// A comma and a further name, or the semicolon that ends the list.
-fn next_instance<'a>(draft: &mut Draft, rest: &'a [u8], whole: usize) -> Result<Step<'a>, Refusal>
-    ensures { step_read result (drafted draft.new) ≡ instance_step whole (drafted draft.old) rest.now }
-{
-    let (token, rest) = next_token(rest, whole);
-    if let Token::Semicolon(_, at) = token {
-        return Ok(Step::Ended(at, rest));
-    }
-    let Token::Comma(..) = token else {
-        return Err(unwanted(&token));
-    };
-    let (token, rest) = next_token(rest, whole);
-    let Token::Word(word, at) = token else {
-        return Err(unwanted(&token));
-    };
-    further_instance(draft, word, at)?;
-    Ok(Step::More(rest))
-}
-
-// An event line, or `endmsc`.
-fn next_line<'a>(draft: &mut Draft, rest: &'a [u8], whole: usize) -> Result<Step<'a>, Refusal>
-    ensures { step_read result (drafted draft.new) ≡ line_step whole (drafted draft.old) rest.now }
-{
-    let (token, rest) = next_token(rest, whole);
-    let Token::Word(word, at) = token else {
-        return Err(unwanted(&token));
-    };
-    if same_text(word, b"endmsc") {
-        return Ok(Step::Ended(at, rest));
-    }
-    let instance = instance_at(draft, word, at)?;
-    let rest = event_line(draft, instance, rest, whole)?;
-    Ok(Step::More(rest))
-}
-
-fn next_step<'a>(
-    part: Part,
-    draft: &mut Draft,
-    rest: &'a [u8],
-    whole: usize,
-) -> Result<Step<'a>, Refusal>
-    ensures { step_read result (drafted draft.new) ≡ step_of part whole (drafted draft.old) rest.now }
-{
-    match part {
-        Part::Instances => next_instance(draft, rest, whole),
-        Part::Lines => next_line(draft, rest, whole),
-    }
-}
-
-// A part to its end: the place where it ended, and what is left.
-pub(crate) fn whole_part<'a>(
-    part: Part,
-    draft: &mut Draft,
-    rest: &'a [u8],
-    whole: usize,
-) -> Result<(usize, &'a [u8]), Refusal>
-    ensures { part_read result (drafted draft.new) ≡ part_from part whole (drafted draft.old) rest.now }
-{
-    let mut unread = rest;
-    loop {
-        match next_step(part, draft, unread, whole)? {
-            Step::More(after) => unread = after,
-            Step::Ended(at, after) => return Ok((at, after)),
+impl<'a> Drawing<'a> {
+    // A comma and a further name, or the semicolon that ends the list: its place.
+    fn next_instance(&mut self) -> Result<Option<usize>, Refusal>
+        ensures step { step_read result self.new ≡ at instance_step self.old }
+        ensures whole { self.new.scanner.whole ≡ self.old.scanner.whole }
+    {
+        let token = self.scanner.next();
+        if let Token::Semicolon(_, at) = token {
+            return Ok(Some(at));
         }
+        let Token::Comma(..) = token else {
+            return Err(token.unexpected());
+        };
+        self.scanner.word()?.further_instance(&mut self.draft)?;
+        Ok(None)
+    }
+
+    // An event line, or `endmsc`: its place.
+    fn next_line(&mut self) -> Result<Option<usize>, Refusal>
+        ensures step { step_read result self.new ≡ at line_step self.old }
+        ensures whole { self.new.scanner.whole ≡ self.old.scanner.whole }
+    {
+        let word = self.scanner.word()?;
+        if word.text == b"endmsc".as_slice() {
+            return Ok(Some(word.at));
+        }
+        let instance = word.instance(&self.draft)?;
+        self.event_line(instance)?;
+        Ok(None)
+    }
+
+    // Steps up to the end of a part: the place where it ended.
+    fn to_end<F: Fn(&mut Drawing<'a>) -> Result<Option<usize>, Refusal>>(
+        &mut self,
+        step: F,
+    ) -> Result<usize, Refusal>
+        requires callable { F.IsAlwaysCallable step }
+        requires steps { Stepped (λ d r e. F.post step d r e) }
+        ensures part { (steps : Stepping) → Follows (λ d r e. F.post step d r e) steps → part_read result self.new ≡ at (part_from steps) self.old }
+        ensures whole { self.new.scanner.whole ≡ self.old.scanner.whole }
+    {
+        loop {
+            if let Some(at) = step(self)? {
+                return Ok(at);
+            }
+        }
+    }
+
+    // The list of instances up to its semicolon, past the first name.
+    pub(crate) fn instances(&mut self) -> Result<usize, Refusal>
+        ensures part { part_read result self.new ≡ at (part_from instance_step) self.old }
+        ensures whole { self.new.scanner.whole ≡ self.old.scanner.whole }
+    {
+        self.to_end(Drawing::next_instance)
+    }
+
+    // The event lines up to `endmsc`.
+    pub(crate) fn lines(&mut self) -> Result<usize, Refusal>
+        ensures part { part_read result self.new ≡ at (part_from line_step) self.old }
+        ensures whole { self.new.scanner.whole ≡ self.old.scanner.whole }
+    {
+        self.to_end(Drawing::next_line)
     }
 }

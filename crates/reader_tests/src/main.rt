@@ -10,8 +10,9 @@ mod showing;
 use accepted::ACCEPTED;
 use cases::{Case, REFUSED};
 use chart::charting::Chart;
+use chart::pieces::Side;
 use comparing::same_charts;
-use making::{filled, heading, list_of, receives, sends};
+use making::{add_lines, filled, heading, list_of};
 use reader::reading::{ReadError, TEXT_LIMIT, read};
 use showing::{print_chart, print_counts, print_error};
 use std::io;
@@ -21,10 +22,10 @@ const FORMER: &[u8] =
     b"msc former; inst x, y, z; x: out one to y; z: out two to x; x: in two from z; y: in one from x; endmsc;";
 
 fn is_expected(answer: &Result<(), ReadError>, number: u8, place: usize) -> bool {
-    match answer {
-        Err(ReadError::Refused(refusal)) => refusal.number() == number && refusal.place() == place,
-        _ => false,
-    }
+    matches!(
+        answer,
+        Err(ReadError::Refused(refusal)) if refusal.number() == number && refusal.place() == place
+    )
 }
 
 // Each refused text, read over a filled place and over a blank one: the refusal, and both places as they were.
@@ -84,7 +85,7 @@ fn try_instances(rt: &HostRuntime) -> io::Result<()> {
 
 fn try_messages(rt: &HostRuntime) -> io::Result<()> {
     let mut text = heading(rt.alloc())?;
-    sends(&mut text, 64)?;
+    add_lines(&mut text, Side::Out, 64)?;
     let sent = text.len();
     text.extend_from_slice(b"endmsc;")?;
     answer(rt, "64 messages, none received", &text)?;
@@ -95,15 +96,15 @@ fn try_messages(rt: &HostRuntime) -> io::Result<()> {
     text.extend_from_slice(b"p: out m00 to q;")?;
     answer(rt, "64 messages and the first again", &text)?;
     text.truncate(sent);
-    receives(&mut text, 64)?;
+    add_lines(&mut text, Side::In, 64)?;
     text.extend_from_slice(b"q: out m64 to p;")?;
     answer(rt, "64 messages received and a 65th", &text)
 }
 
 fn try_full(rt: &HostRuntime) -> io::Result<()> {
     let mut text = heading(rt.alloc())?;
-    sends(&mut text, 64)?;
-    receives(&mut text, 63)?;
+    add_lines(&mut text, Side::Out, 64)?;
+    add_lines(&mut text, Side::In, 63)?;
     let short = text.len();
     text.extend_from_slice(b"endmsc;")?;
     answer(rt, "64 messages, the last not received", &text)?;

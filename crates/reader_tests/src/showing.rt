@@ -35,10 +35,9 @@ fn print_messages(rt: &HostRuntime, chart: &Chart) -> io::Result<()> {
 }
 
 fn print_lines(rt: &HostRuntime, chart: &Chart) -> io::Result<()> {
-    for number in 0..chart.events().len() {
-        let Some(line) = chart.line(EventId(number as u16)) else {
-            continue;
-        };
+    // The chart hands out its lines by the number of an event, one at a time; it has no list of them to walk.
+    let lines = (0..u16::MAX).map_while(|number| chart.line(EventId(number)));
+    for (number, line) in lines.enumerate() {
         let instance = line.instance.0;
         let message = line.message.0;
         match line.side {
