@@ -1,24 +1,17 @@
 // Which events come before which.
-ghost use Rattle.std.specs.Prelude.{◌≡◌, ℕ, ◌<◌, false, if◌then◌else◌, nat_eq, slice_index_or};
+ghost use Rattle.std.specs.Prelude.{◌≡◌, ℕ, ◌<◌, false, if◌then◌else◌, nat_eq};
 ghost use Rattle.matrix.specs.Places.{event_limit};
-ghost use Rattle.matrix.specs.Models.{has, no_words, row_of, precedes};
+ghost use Rattle.matrix.specs.Models.{has, row_of, precedes};
 
 use super::places::Place;
 use super::sets::EventSet;
 use chart::drafting::EVENT_LIMIT;
 
-// A bit for each two events: a row for each event, with the events that come before it.
+// A bit for each two events: a row for each event, with the events that come before it. An array of bit rows of fixed length,
+// so that no call allocates.
 #[derive(Drop)]
 pub struct OrderMatrix {
     rows: [EventSet; EVENT_LIMIT],
-}
-
-fn empty_all(rows: &mut [EventSet])
-    ensures { (x y : ℕ) → has (slice_index_or rows.new y no_words) x ≡ false }
-{
-    for row in rows.iter_mut() {
-        *row = EventSet::empty();
-    }
 }
 
 impl OrderMatrix {
@@ -34,7 +27,7 @@ impl OrderMatrix {
     pub fn clear(&mut self)
         ensures { (x y : ℕ) → precedes self.new x y ≡ false }
     {
-        empty_all(&mut self.rows);
+        self.rows.fill(EventSet::empty());
     }
 
     // The events before this one.

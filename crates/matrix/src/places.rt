@@ -15,7 +15,7 @@ pub struct Place {
 }
 
 impl Place {
-    // None if no chart has so many messages.
+    // None if no chart has so many messages: there is no more to tell, so no TryFrom with an error type of its own.
     pub fn of(event: Event) -> Option<Place>
         ensures { MatchOption result (message_limit ≤ message_of (happening event)) (λ p. p.number ≡ place_of (happening event)) }
     {

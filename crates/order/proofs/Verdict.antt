@@ -67,12 +67,12 @@ module _ (c : Content) (rule : Tag → Tag → Bool) (room : ℕ) (laid : Laid c
 -- an accepted chart, or a blank place, is laid out as the analysis needs it
 pub chart_laid : (chart : Chart) → Laid (content chart)
 chart_laid chart =
-    let few : vec_len chart.parts.instances ≤ 16 = chart.few_instances in
+    let few : vec_len chart.parts.instances ≤ 16 = chart.parts.few_instances in
     let e = instance_count chart.parts in
     record {
       few_instances = omega arith;
-      all_join = chart.all_join;
-      is_numbered = chart.numbered;
-      all_sent = chart.all_sent;
+      all_join = chart.parts.all_join;
+      is_numbered = chart.parts.numbered;
+      all_sent = chart.parts.all_sent;
       received_once = chart.received_once;
     }

@@ -12,8 +12,8 @@ use delivery::station::Station;
 fn tag_between(from: InstanceId, to: InstanceId) -> Option<Tag>
     ensures { MatchOption result ((128 ≤ from.0) ⊎ (128 ≤ to.0)) (λ t. (t.sender.number ≡ from.0) × (t.receiver.number ≡ to.0)) }
 {
-    let sender = Station::new(from.0)?;
-    let receiver = Station::new(to.0)?;
+    let sender = Station::try_from(from.0).ok()?;
+    let receiver = Station::try_from(to.0).ok()?;
     Some(Tag { sender, receiver })
 }
 
