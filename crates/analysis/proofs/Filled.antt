@@ -73,9 +73,6 @@ pub record Passing (c : Content) (o : OrderMatrix) (n : ℕ) (r : EventSet) (i :
   pub gathered : Consists r (Passed c o n i)
 
 module _ (c : Content) (o : OrderMatrix) (n : ℕ) where
-  pub passing_none : (r : EventSet) → ((x : ℕ) → has r x ≡ false) → Passing c o n r 0
-  passing_none r none = record { ahead = omega arith; gathered = λ e. ((λ t. absurd (both_ways _ (none (place_of e)) t)), λ q. let l : q.0 < 0 = q.1 in absurd (omega arith)) }
-
   module _ (i : ℕ) (l : i < length c.events) (other : is_sent n (event_at c i) ≡ false) where
     not_yet : (r : EventSet) → Passing c o n r i → i + 1 ≤ sent_at n c.events
     not_yet r h = front_more (λ e. not (is_sent n e)) c.events i (sent 0) l h.ahead (not_from_false _ other)
@@ -150,12 +147,6 @@ module _ (c : Content) (o : OrderMatrix) (n : ℕ) where
         all_passed (omega arith)
 
 module _ (s : Scene) (o : OrderMatrix) (n : ℕ) where
-  pub in_none : (r r' : EventSet) → ((x : ℕ) → has r x ≡ false) → Joined o r (sent n) r' → Consists r' (BeforeIn s o n 0)
-  in_none r r' none j =
-      consists_more o r r' (sent n) (λ e. ⊥) (BeforeIn s o n 0) j (λ e z. absurd z) (λ e t. inl t)
-      (λ e. ⊎_elim inr (λ q. let l : q.0 < 0 = q.1 in absurd (omega arith)))
-      (λ e. ((λ t. both_ways _ (none (place_of e)) t), λ z. absurd z))
-
   module _ (k : ℕ) where
     in_later : (e : Happening) → BeforeIn s o n k e → BeforeIn s o n (k + 1) e
     in_later e = ⊎_elim inl (λ q. let l : q.0 < k = q.1 in inr (q.0, omega arith, q.2, q.3))

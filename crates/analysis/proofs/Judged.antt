@@ -1,7 +1,8 @@
 -- What the matrix tells of two events is what the one pass tells.
-use Rattle.std.proofs.Common.{◌≡◌, ℕ, zero, suc, ◌+◌, ◌*◌, ◌<◌, ◌≤◌, Bool, true, false, cond, not, ◌&&◌, ◌||◌, eqb, ltb, leb, ◌⊎◌, ◌∷◌, length, sym, refl, ap, ◌∙◌, ap₂, inl, inr, add_comm, add-one, arith}
-use Rattle.std.proofs.lemmas.Bool.{cases_lt, cases_eq, lt-ltb, le-ltb, eq-eqb, ne_eqb, and_left, and_right, and_from, or_right, cond-false}
+use Rattle.std.proofs.Common.{◌≡◌, ℕ, zero, suc, ◌+◌, ◌*◌, ◌<◌, ◌≤◌, Bool, true, false, cond, not, ◌&&◌, ◌||◌, ltb, leb, ◌⊎◌, ◌∷◌, length, sym, refl, ap, ◌∙◌, ap₂, inl, inr, add_comm, add-one, arith}
+use Rattle.std.proofs.lemmas.Bool.{cases_eq, lt-ltb, le-ltb, and_left, and_right, cond-false}
 use Rattle.chart.specs.Content.{Happening, sent, received, message_of}
+use Rattle.chart.specs.declared.numbers.EventId.{EventId}
 use Rattle.matrix.specs.Places.{place_of, event_limit}
 use Rattle.matrix.specs.Sets.{count_below}
 use Rattle.matrix.specs.Models.{has, precedes}
@@ -21,42 +22,11 @@ module _ (held : ℕ → Bool) where
   abbrev pub HeldTo : EventSet → ℕ → Type 0
   HeldTo r k = (e : Happening) → has r (place_of e) ≡ is_held held k e
 
-  pub held_none : (r : EventSet) → ((x : ℕ) → has r x ≡ false) → HeldTo r 0
-  held_none r none (sent h) = none (2 * h) ∙ sym (and_left (ltb h 0) (held h) (le-ltb h 0 (omega arith)))
-  held_none r none (received h) = none (2 * h + 1)
-
-  other_place : (k h : ℕ) → (h ≡ k → ⊥) → (ltb h k && held h) ≡ (ltb h (k + 1) && held h)
-  other_place k h d =
-      ap (λ b. b && held h)
-      (elim (cases_lt h k) [
-        | inl l ↦ lt-ltb h k l ∙ sym (lt-ltb h (k + 1) (omega arith))
-        | inr l ↦ le-ltb h k l ∙ sym (le-ltb h (k + 1) (let x : k ≡ h → ⊥ = λ z. d (sym z) in omega arith))
-      ])
-
-  pub held_yes : (r r' : EventSet) (k p : ℕ) → p ≡ place_of (sent k) → held k ≡ true → ((x : ℕ) → has r' x ≡ (has r x || eqb x p)) → HeldTo r k → HeldTo r' (k + 1)
-  held_yes r r' k p at this insert h (sent j) =
-      insert (2 * j) ∙ ap₂ (λ (b : Bool) (q : ℕ). b || eqb (2 * j) q) (h (sent j)) at
-      ∙ elim (cases_eq j k) [
-        | inl e ↦ or_right (ltb j k && held j) _ (eq-eqb (2 * j) (2 * k) (omega arith)) ∙ sym (and_from (ltb j (k + 1)) (held j) (lt-ltb j (k + 1) (omega arith)) (ap held e ∙ this))
-        | inr d ↦ ap (λ b. (ltb j k && held j) || b) (ne_eqb (2 * j) (2 * k) (λ z. d (omega arith))) ∙ or_false _ ∙ other_place k j d
-      ]
-  held_yes r r' k p at this insert h (received j) =
-      insert (2 * j + 1) ∙ ap₂ (λ (b : Bool) (q : ℕ). b || eqb (2 * j + 1) q) (h (received j)) at ∙ ne_eqb (2 * j + 1) (2 * k) (λ z. omega arith)
-
-  pub held_no : (r : EventSet) (k : ℕ) → held k ≡ false → HeldTo r k → HeldTo r (k + 1)
-  held_no r k none h (sent j) =
-      h (sent j)
-      ∙ elim (cases_eq j k) [
-        | inl e ↦ let q : held j ≡ false = ap held e ∙ none in and_right (ltb j k) _ q ∙ sym (and_right (ltb j (k + 1)) _ q)
-        | inr d ↦ other_place k j d
-      ]
-  held_no r k none h (received j) = h (received j)
-
 -- the column of an out event and the hold row of its message
 pub foreseen_by :
-    (s : Scene) (o : OrderMatrix) (m k : ℕ) (after held : EventSet) → s.messages ≤ 64 → Filled s o → m < s.messages → k ≡ place_of (sent m) →
-    ((y : ℕ) → y < event_limit → has after y ≡ precedes o k y) → HeldTo (s.holds m) held s.messages → Foreseen s m (record { after = after; held = held })
-foreseen_by s o m k after held few filled inside at column row =
+    (s : Scene) (o : OrderMatrix) (m k : ℕ) (first : EventId) (after held : EventSet) → s.messages ≤ 64 → Filled s o → m < s.messages → k ≡ place_of (sent m) →
+    ((y : ℕ) → y < event_limit → has after y ≡ precedes o k y) → HeldTo (s.holds m) held s.messages → Foreseen s m (record { first = first; after = after; held = held })
+foreseen_by s o m k first after held few filled inside at column row =
     record {
       after = λ h l. column (2 * h) (omega arith) ∙ ap (λ (x : ℕ). precedes o x (2 * h)) at ∙ filled (sent m) (sent h) inside l;
       held = row;

@@ -1,9 +1,12 @@
+pub mod Same
 pub mod Asked
 pub mod Places
 pub mod Filled
 pub mod Judged
 pub mod Verdicts
-pub mod Pasting
+pub mod Room
+pub mod Putting
 pub mod Sweeping
 pub mod ExactRaces
 pub mod Telling
+pub mod Walked

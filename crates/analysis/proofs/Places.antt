@@ -1,5 +1,5 @@
 -- Events by their places.
-use Rattle.std.proofs.Common.{◌≡◌, ℕ, ◌+◌, ◌*◌, ◌<◌, Bool, true, false, ◌||◌, eqb, sym, refl, ◌∙◌, arith}
+use Rattle.std.proofs.Common.{◌≡◌, ℕ, ◌+◌, ◌*◌, ◌<◌, Bool, true, false, eqb, sym, refl, ◌∙◌, arith}
 use Rattle.std.proofs.lemmas.Bool.{eqb-true, eq-eqb, ne_eqb}
 use Rattle.chart.specs.Content.{Happening, sent, received, message_of}
 use Rattle.matrix.specs.Places.{place_of}
@@ -10,10 +10,6 @@ pub both_true : (a b : Bool) → (a ≡ true → b ≡ true) → (b ≡ true →
 both_true true b f g = sym (f refl)
 both_true false true f g = g refl
 both_true false false f g = refl
-
-pub or_regroup : (a b c : Bool) → ((a || b) || c) ≡ (a || (b || c))
-or_regroup true b c = refl
-or_regroup false b c = refl
 
 pub place_same : (e f : Happening) → eqb (place_of e) (place_of f) ≡ same e f
 place_same (sent m) (sent n) =

@@ -1,8 +1,12 @@
 -- One step of the walk over the reversible pairs.
-use Rattle.std.proofs.Common.{◌≡◌, ℕ, zero, suc, ◌+◌, ◌-◌, ◌*◌, ◌<◌, ◌≤◌, Bool, true, false, cond, not, ◌&&◌, eqb, ltb, List, [], ◌∷◌, ◌++◌, map, length, get_or, take, Some, None, vec_len, Option, sym, refl, ap, ◌∙◌, subst, inl, inr, append_assoc, add-one, arith}
-use Rattle.std.proofs.lemmas.List.{append-nil, map-append, length-append, length-map, length_push, take_more, get_or_at}
-use Rattle.std.proofs.lemmas.Bool.{cond-true, cond-false, cases_lt, cases_Bool, lt-ltb, le-ltb, ltb-true, and_left, and_parts}
-use Rattle.chart.specs.Charted.{content, drawn, line_of}
+use Rattle.std.proofs.Common.{◌≡◌, ℕ, zero, suc, ◌+◌, ◌-◌, ◌*◌, ◌<◌, ◌≤◌, Bool, true, false, cond, not, ◌&&◌, eqb, ltb, List, [], ◌∷◌, ◌++◌, map, length, get_or, drop, Some, None, vec_len, Option, sym, ap, ◌∙◌, subst, inl, inr, append_assoc, add-one, arith}
+use Rattle.std.specs.Iterator.{MakesProgress, item_count}
+use Rattle.std.specs.Bool.{⊤}
+use Rattle.std.specs.List.{All}
+use Rattle.std.proofs.lemmas.List.Elements.{All-nil, All-cons, All-append, All-map, All-weaker}
+use Rattle.std.proofs.lemmas.List.{append-nil, map-append, length-append, length-map, length_push, drop_more, drop_all, get_or_at}
+use Rattle.std.proofs.lemmas.Bool.{cond-true, cond-false, cases_lt, cases_Bool, le-ltb, ltb-true, and_left, and_parts}
+use Rattle.chart.specs.Charted.{content, drawn}
 use Rattle.chart.specs.Content.{Happening, sent, received, message_of, Content, nobody, sender_of, receiver_of}
 use Rattle.chart.specs.declared.charting.Chart.{Chart}
 use Rattle.chart.specs.declared.charting.asking.Line.{Line}
@@ -13,29 +17,11 @@ use Rattle.order.specs.Pass.{turns, rows}
 use Rattle.order.specs.Report.{upward, grid, report}
 use Rattle.order.specs.Scenes.{Laid, scene_of, instance_of, event_at}
 use Rattle.order.proofs.Scenes.{event_inside}
+use Rattle.order.proofs.Verdict.{chart_laid}
 use Rattle.analysis.specs.Races.{race_of, races_of, InChart}
-use Rattle.analysis.specs.Walking.{FirstFrom, passed, Step, is_race, Sweeps, SweepsOn, Begins, Walks}
+use Rattle.analysis.specs.Walking.{FirstFrom, passed, Course, Gives, is_race, Sweeps, SweepsOn, Begins, Walks}
 use Rattle.analysis.specs.declared.races.Race.{Race}
 use Rattle.analysis.specs.declared.walking.Sweep.{Sweep}
-use Rattle.analysis.specs.declared.walking.Walk.{Walk}
-
-pub line_known : (c : Content) (f : ℕ) (l : Line) → Some l ≡ line_of c f → (f < length c.events) × (l ≡ drawn c (event_at c f))
-line_known c f l h = elim (cases_lt f (length c.events)) [
-  | inl k ↦ let e : Some l ≡ Some (drawn c (event_at c f)) = h ∙ cond-true _ _ _ (lt-ltb f (length c.events) k) in (k, cc)
-  | inr k ↦
-      let e : Some l ≡ None = h ∙ cond-false _ _ _ (le-ltb f (length c.events) k) in
-      let z : ◌≡◌ {A = ℕ} 0 1 = cc in
-      absurd (omega arith)
-]
-
-pub line_unknown : (c : Content) (f : ℕ) → None ≡ line_of c f → length c.events ≤ f
-line_unknown c f h = elim (cases_lt f (length c.events)) [
-  | inl k ↦
-      let e : None ≡ Some (drawn c (event_at c f)) = h ∙ cond-true _ _ _ (lt-ltb f (length c.events) k) in
-      let z : ◌≡◌ {A = ℕ} 0 1 = cc in
-      absurd (omega arith)
-  | inr k ↦ k
-]
 
 ends_inside : (c : Content) → Laid c → (m : ℕ) → m < length c.messages → (sender_of c m < length c.instances) × (receiver_of c m < length c.instances)
 ends_inside c laid m l =
@@ -55,7 +41,7 @@ instance_inside c laid i l = drawn_inside c laid (event_at c i) (event_inside c 
 -- how many events are left as firsts of pairs
 abbrev pub unswept : Content → Option Sweep → ℕ
 unswept c None = 0
-unswept c (Some w) = length c.events - w.first.0
+unswept c (Some w) = length c.events - w.prospect.first.0
 
 module _ (q : ℕ → Bool) where
   pub upward_one : (n : ℕ) → q n ≡ true → upward q (n + 1) ≡ upward q n ++ n ∷ []
@@ -148,16 +134,41 @@ module _ {X Y : Type 0} (f : X → Y) (xs l : List X) (y : X) (rest : List X) (i
   pub next_inside : length l < length (map f xs)
   next_inside = omega (arith, ap length split, length-append (map f l) (f y ∷ map f rest), length-map l f)
 
-  pub next_taken : take (length l + 1) (map f xs) ≡ take (length l) (map f xs) ++ f y ∷ []
-  next_taken =
-      take_more (map f xs) (length l) (f y) next_inside
-      ∙ ap (λ v. take (length l) (map f xs) ++ v ∷ []) (ap (λ t. get_or t (length l) (f y)) split ∙ get_or_at (map f l) (f y) (map f rest) (f y) (length l) (length-map l f))
+  pub next_left : drop (length l) (map f xs) ≡ f y ∷ drop (length l + 1) (map f xs)
+  next_left =
+      drop_more (map f xs) (length l) (f y) next_inside
+      ∙ ap (λ v. v ∷ drop (length l + 1) (map f xs)) (ap (λ t. get_or t (length l) (f y)) split ∙ get_or_at (map f l) (f y) (map f rest) (f y) (length l) (length-map l f))
 
 pub few_events : (chart : Chart) → length (content chart).events ≤ 128
 few_events chart =
     let few : vec_len chart.parts.events ≤ 128 = chart.few_events in
     let e = event_count chart.parts in
     omega arith
+
+-- each pair of a grid is inside it
+module _ (p : ℕ → ℕ → Bool) (n : ℕ) where
+  upward_inside : (q : ℕ → Bool) (m : ℕ) → m ≤ n → All (λ y. y < n) (upward q m)
+  upward_inside q zero l = All-nil _
+  upward_inside q (suc m) l =
+      All-append (λ y. y < n) (upward q m) (cond (q m) (m ∷ []) []) (upward_inside q m (omega arith))
+      (elim (q m) as (λ b. All (λ y. y < n) (cond b (m ∷ []) [])) [ true ↦ All-cons (λ y. y < n) m [] (omega arith) (All-nil _) | false ↦ All-nil _ ])
+
+  abbrev pub Inside : ℕ × ℕ → Type 0
+  Inside x = (x.0 < n) × (x.1 < n)
+
+  pub grid_inside : (m : ℕ) → m ≤ n → All Inside (grid p n m)
+  grid_inside zero l = All-nil _
+  grid_inside (suc m) l =
+      All-append Inside (grid p n m) (beside m (upward (p m) n)) (grid_inside m (omega arith))
+      (All-map Inside (λ y. (m, y)) (upward (p m) n) (All-weaker (λ y. y < n) (λ y. Inside (m, y)) (λ y b. (omega arith, b)) (upward (p m) n) (upward_inside (p m) n (omega arith))))
+
+-- each pair is one of the chart
+pub in_chart : (chart : Chart) (rule : Tag → Tag → Bool) (room : ℕ) → All (InChart (content chart)) (races_of (content chart) rule room)
+in_chart chart rule room =
+    let c = content chart in
+    All-map (InChart c) (race_of c) (report c rule room)
+    (All-weaker (Inside (is_race c rule room) (length c.events)) (λ x. InChart c (race_of c x)) (λ x b. record { first = b.0; second = b.1; instance = instance_inside c (chart_laid chart) x.0 b.0 })
+    (report c rule room) (grid_inside (is_race c rule room) (length c.events) (length c.events) (omega arith)))
 
 module _ (c : Content) (rule : Tag → Tag → Bool) (room : ℕ) where
   abbrev P : ℕ → ℕ → Bool
@@ -179,7 +190,7 @@ module _ (c : Content) (rule : Tag → Tag → Bool) (room : ℕ) where
   pub begun : (f : ℕ) (o : Option Sweep) → f ≤ N → Begins c rule room f o → passed P N o ≡ grid P N f
   begun f None l b = let e : N ≡ f = omega arith in ap (grid P N) e
   begun f (Some w) l (sweeps, first, next) =
-      row_new P N w.first.0 sweeps.inside w.next (λ z b. not_above w.first.0 z (omega arith))
+      row_new P N w.prospect.first.0 sweeps.foresees.inside w.next (λ z b. not_above w.prospect.first.0 z (omega arith))
       ∙ ap (grid P N) first
 
   pub goes_on : (f : ℕ) (o : Option Sweep) → Begins c rule room f o → SweepsOn c rule room o
@@ -191,77 +202,76 @@ module _ (c : Content) (rule : Tag → Tag → Bool) (room : ℕ) where
   fewer f (Some w) l (sweeps, first, next) = omega arith
 
   -- all pairs were given
-  pub at_end : (w : Walk) → Walks c rule room w → w.sweep ≡ None → length (races_of c rule room) ≡ w.given
-  at_end w walks is = length-map (report c rule room) (race_of c) ∙ sym (walks.given ∙ ap (λ o. length (passed P N o)) is)
+  pub at_end : (o : Option Sweep) (given : ℕ) → Walks c rule room o given → o ≡ None → length (races_of c rule room) ≡ given
+  at_end o given walks is = length-map (report c rule room) (race_of c) ∙ sym (walks.gave ∙ ap (λ o. length (passed P N o)) is)
 
-  module _ (w : Walk) (walks : Walks c rule room w) (s : Sweep) (is : w.sweep ≡ Some s) where
+  module _ (o : Option Sweep) (given : ℕ) (walks : Walks c rule room o given) (s : Sweep) (is : o ≡ Some s) where
     pub sweeping : Sweeps c rule room s
     sweeping = subst (SweepsOn c rule room) is walks.sweeps
 
-    given_is : w.given ≡ length (passed P N (Some s))
-    given_is = walks.given ∙ ap (λ o. length (passed P N o)) is
-
-    pub measured : unswept c w.sweep ≡ N - s.first.0
-    measured = ap (unswept c) is
+    given_is : given ≡ length (passed P N (Some s))
+    given_is = walks.gave ∙ ap (λ o. length (passed P N o)) is
 
     -- no pair is left with this first event
-    pub row_over : FirstFrom (P s.first.0) s.next N None → (o : Option Sweep) → Begins c rule room (s.first.0 + 1) o → Walks c rule room (record { order = w.order; sweep = o; given = w.given })
-    row_over none o b =
-        let l : s.first.0 < N = sweeping.inside in
+    pub row_over : FirstFrom (P s.prospect.first.0) s.next N None → (o' : Option Sweep) → Begins c rule room (s.prospect.first.0 + 1) o' → Walks c rule room o' given
+    row_over none o' b =
+        let l : s.prospect.first.0 < N = sweeping.foresees.inside in
         record {
-          filled = walks.filled;
-          sweeps = goes_on (s.first.0 + 1) o b;
-          given =
+          sweeps = goes_on (s.prospect.first.0 + 1) o' b;
+          gave =
               given_is
-              ∙ ap length (row_done P N s.first.0 sweeping.inside s.next sweeping.within none ∙ sym (begun (s.first.0 + 1) o (omega arith) b));
+              ∙ ap length (row_done P N s.prospect.first.0 sweeping.foresees.inside s.next sweeping.within none ∙ sym (begun (s.prospect.first.0 + 1) o' (omega arith) b));
         }
 
     -- a pair is found
-    module _ (y : EventId) (found : FirstFrom (P s.first.0) s.next N (Some y)) where
+    module _ (y : EventId) (found : FirstFrom (P s.prospect.first.0) s.next N (Some y)) where
       abbrev pub on : Sweep
-      on = record { first = s.first; line = s.line; prospect = s.prospect; next = y.0 + 1 }
+      on = record { prospect = s.prospect; line = s.line; next = y.0 + 1 }
 
       abbrev pub race : Line → Race
-      race l = record { first = s.first; second = y; instance = l.instance; side = l.side }
+      race l = record { first = s.prospect.first; second = y; instance = l.instance; side = l.side }
 
       abbrev front : List (ℕ × ℕ)
       front = passed P N (Some s)
 
-      grown : passed P N (Some on) ≡ front ++ (s.first.0, y.0) ∷ []
-      grown = pair_next P N s.first.0 sweeping.inside s.next y.0 found.0 found.1 found.2 found.3
+      grown : passed P N (Some on) ≡ front ++ (s.prospect.first.0, y.0) ∷ []
+      grown = pair_next P N s.prospect.first.0 sweeping.foresees.inside s.next y.0 found.0 found.1 found.2 found.3
 
       y_inside : y.0 + 1 ≤ N
       y_inside = let l : y.0 < N = found.1 in omega arith
 
-      all : (rest : List (ℕ × ℕ)) × (report c rule room ≡ (front ++ (s.first.0, y.0) ∷ []) ++ rest)
-      all = let r = pair_among P N s.first.0 sweeping.inside (y.0 + 1) y_inside in (r.0, r.1 ∙ ap (λ t. t ++ r.0) grown)
+      all : (rest : List (ℕ × ℕ)) × (report c rule room ≡ (front ++ (s.prospect.first.0, y.0) ∷ []) ++ rest)
+      all = let r = pair_among P N s.prospect.first.0 sweeping.foresees.inside (y.0 + 1) y_inside in (r.0, r.1 ∙ ap (λ t. t ++ r.0) grown)
 
-      pub given_more : Walks c rule room (record { order = w.order; sweep = Some on; given = w.given + 1 })
+      pub given_more : Walks c rule room (Some on) (given + 1)
       given_more =
           record {
-            filled = walks.filled;
-            sweeps = record { inside = sweeping.inside; within = y_inside; drawn_so = sweeping.drawn_so; foreseen = sweeping.foreseen };
-            given = ap (λ k. k + 1) given_is ∙ sym (ap length grown ∙ length_push front (s.first.0, y.0));
+            sweeps = record { foresees = sweeping.foresees; within = y_inside; drawn_so = sweeping.drawn_so };
+            gave = ap (λ k. k + 1) given_is ∙ sym (ap length grown ∙ length_push front (s.prospect.first.0, y.0));
           }
 
-      pub more_left : w.given < length (races_of c rule room)
-      more_left = rw given_is (next_inside (race_of c) (report c rule room) front (s.first.0, y.0) all.0 all.1)
+      pub more_left : given < length (races_of c rule room)
+      more_left = rw given_is (next_inside (race_of c) (report c rule room) front (s.prospect.first.0, y.0) all.0 all.1)
 
-      race_is : race_of c (s.first.0, y.0) ≡ race s.line
-      race_is = sym (ap race sweeping.drawn_so)
-
-      gives_next : take (w.given + 1) (races_of c rule room) ≡ take w.given (races_of c rule room) ++ race s.line ∷ []
+      -- it is the first of those that are left
+      pub gives_next : drop given (races_of c rule room) ≡ race s.line ∷ drop (given + 1) (races_of c rule room)
       gives_next =
-          subst (λ k. take (k + 1) (races_of c rule room) ≡ take k (races_of c rule room) ++ race s.line ∷ []) (sym given_is)
-          (next_taken (race_of c) (report c rule room) front (s.first.0, y.0) all.0 all.1 ∙ ap (λ v. take (length front) (races_of c rule room) ++ v ∷ []) race_is)
+          subst (λ k. drop k (races_of c rule room) ≡ race s.line ∷ drop (k + 1) (races_of c rule room)) (sym given_is)
+          (next_left (race_of c) (report c rule room) front (s.prospect.first.0, y.0) all.0 all.1 ∙ ap (λ l. race l ∷ drop (length front + 1) (races_of c rule room)) (sym sweeping.drawn_so))
 
-      pub steps : (k : ℕ) → w.given ≡ k → Step (races_of c rule room) k (Some (race s.line)) (w.given + 1)
-      steps k e = subst (λ j. Step (races_of c rule room) j (Some (race s.line)) (w.given + 1)) e (more_left, refl, gives_next)
+-- a step of a walk, by what is seen of the walk as it began: v, which shows what is left of these, and how many were given
+module _ (first : List Race) (j : ℕ) (v : Course) (seen : record { left = drop j first; given = j } ≡ v) (xs : List Race) (k : ℕ) (same : first ≡ xs) (kept : j ≡ k) where
+  seen_now : record { left = drop k xs; given = k } ≡ v
+  seen_now = subst (λ (ys : List Race). record { left = drop k ys; given = k } ≡ v) same (subst (λ (i : ℕ). record { left = drop i first; given = i } ≡ v) kept seen)
 
-      pub known : Laid c → InChart c (race s.line)
-      known laid =
-          record {
-            first = sweeping.inside;
-            second = found.1;
-            instance = subst (λ l. l.instance.0 < length c.instances) (sym sweeping.drawn_so) (instance_inside c laid s.first.0 sweeping.inside);
-          }
+  pub gives_one : (x : Race) → drop k xs ≡ x ∷ drop (k + 1) xs → Gives v (Some x) (record { left = drop (k + 1) xs; given = k + 1 })
+  gives_one x e = (sym (ap (λ (w : Course). w.left) seen_now) ∙ e, ap (λ (w : Course). w.given + 1) seen_now)
+
+  pub gives_none : length xs ≡ k → Gives v None (record { left = drop k xs; given = k })
+  gives_none e =
+      let none : drop k xs ≡ [] = drop_all k xs (omega arith) in
+      (sym (ap (λ (w : Course). w.left) seen_now) ∙ none, none, ap (λ (w : Course). w.given) seen_now)
+
+-- it brings the walk nearer to its end
+pub nearer : (s t : Course) (x : Race) → Gives s (Some x) t → MakesProgress (λ _. ⊤) (item_count (λ (w : Course). w.left)) s (Some x) t
+nearer s t x (e, n) = let l = ap length e in record { on = λ _. (tt, tt, omega arith); keeps = tt; rests = λ _. tt }

@@ -1,5 +1,5 @@
 -- From the tests of two events to the verdict on them.
-use Rattle.std.proofs.Common.{◌≡◌, ℕ, ◌<◌, ◌≤◌, Bool, true, false, ◌&&◌, T, eqb, ltb, length, sym, ap, ◌∙◌, arith}
+use Rattle.std.proofs.Common.{◌≡◌, ℕ, ◌<◌, ◌≤◌, Bool, true, false, ◌&&◌, T, eqb, ltb, length, sym, ap, ◌∙◌}
 use Rattle.std.proofs.lemmas.Bool.{both_ways, and_parts, and_from, lt-ltb, ltb-true, eq-eqb, eqb-true}
 use Rattle.chart.specs.Charted.{content}
 use Rattle.chart.specs.Content.{sent, Content}
@@ -28,16 +28,10 @@ module _ (c : Content) (a b : ℕ) where
   abbrev paired : Bool
   paired = ltb a b && eqb (instance_of c (event_at c a)) (instance_of c (event_at c b))
 
-  pub no_pair : false ≡ paired → ¬ PairAt c a b
-  no_pair f p = both_ways paired (sym f) (and_from _ _ (lt-ltb a b p.drawn) (eq-eqb _ _ p.together))
-
   pub a_pair : b < length c.events → true ≡ paired → PairAt c a b
   a_pair l t =
       let k = and_parts (ltb a b) (eqb (instance_of c (event_at c a)) (instance_of c (event_at c b))) (sym t) in
       record { drawn = ltb-true a b k.0; inside = l; together = eqb-true _ _ k.1 }
-
-  pub outside : (length c.events ≤ a) → ¬ PairAt c a b
-  outside l p = let d = p.drawn in let i = p.inside in omega arith
 
 module _ (chart : Chart) (rule : Tag → Tag → Bool) (room : ℕ) (transitive : Transitive rule) (some : 1 ≤ room) (a b : ℕ) (pair : PairAt (content chart) a b) where
   abbrev c : Content

@@ -1,12 +1,13 @@
 -- What a filled matrix tells of two events.
-use Rattle.std.specs.Prelude.{◌≡◌, ℕ, ◌+◌, ◌<◌, Bool, false, not, ◌&&◌, ◌||◌, nat_le, nat_lt}
-use Rattle.chart.specs.Content.{Happening, sent, received, message_of}
+use Rattle.std.specs.Prelude.{◌≡◌, ℕ, ◌+◌, ◌<◌, Bool, false, not, ◌&&◌, ◌||◌, length, nat_le, nat_lt}
+use Rattle.chart.specs.Content.{Content, Happening, sent, received, message_of}
 use Rattle.matrix.specs.Places.{place_of}
 use Rattle.matrix.specs.Sets.{count_below, place_count}
 use Rattle.matrix.specs.Models.{has, precedes}
 use Rattle.matrix.specs.declared.matrices.OrderMatrix.{OrderMatrix}
 use Rattle.order.specs.Order.{Scene}
 use Rattle.order.specs.Pass.{rows, enforces}
+use Rattle.order.specs.Scenes.{event_at}
 use Rattle.analysis.specs.Filling.{holds}
 use Rattle.analysis.specs.declared.judging.Prospect.{Prospect}
 
@@ -23,6 +24,11 @@ is_held held k (received h) = false
 pub record Foreseen (s : Scene) (m : ℕ) (p : Prospect) : Type 0 where
   pub after : (h : ℕ) → h < s.messages → has p.after (place_of (sent h)) ≡ enforces (rows s s.messages) (sent m) (sent h)
   pub held : (e : Happening) → has p.held (place_of e) ≡ is_held (s.holds m) s.messages e
+
+-- the prospect is that of an event of the chart, as the first of pairs
+pub record Foresees (c : Content) (s : Scene) (p : Prospect) : Type 0 where
+  pub inside : p.first.0 < length c.events
+  pub seen : Foreseen s (message_of (event_at c p.first.0)) p
 
 -- how many are in the column, in the row of the out event of message n and in the hold row; and two
 abbrev pub crowd_in : OrderMatrix → Prospect → ℕ → ℕ

@@ -1,3 +1,4 @@
+pub mod Settings
 pub mod Filling
 pub mod Judging
 pub mod Outlooks

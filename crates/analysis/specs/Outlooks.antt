@@ -1,5 +1,5 @@
 -- What is told of two events that are to come the other way round.
-use Rattle.std.specs.Prelude.{◌≡◌, ℕ, ◌<◌}
+use Rattle.std.specs.Prelude.{◌≡◌, ℕ, ◌<◌, Ok, Err, Result}
 use Rattle.chart.specs.Content.{sent, message_of, Content}
 use Rattle.matrix.specs.Places.{place_of}
 use Rattle.matrix.specs.Models.{has}
@@ -8,8 +8,8 @@ use Rattle.order.specs.Pass.{rows, enforces}
 use Rattle.order.specs.Reversible.{Reversible}
 use Rattle.order.specs.Scenes.{event_at, PairAt}
 use Rattle.analysis.specs.declared.outlook.Outlook.{Outlook}
-use Rattle.analysis.specs.declared.outlook.Verdict.{Verdict}
-use Rattle.analysis.specs.declared.outlook.Verdict.TheVariants as verdict
+use Rattle.analysis.specs.declared.refusals.JudgeRefusal.{JudgeRefusal}
+use Rattle.analysis.specs.declared.refusals.JudgeRefusal.TheVariants.{NotPair, Fixed}
 
 -- of the messages of the scene, the sets have the out events before that of n, those after that of m, and those of the messages that m holds
 pub record Outlooks (s : Scene) (m n : ℕ) (o : Outlook) : Type 0 where
@@ -19,9 +19,9 @@ pub record Outlooks (s : Scene) (m n : ℕ) (o : Outlook) : Type 0 where
   pub after : (h : ℕ) → h < s.messages → has o.after (place_of (sent h)) ≡ enforces (rows s s.messages) (sent m) (sent h)
   pub held : (h : ℕ) → h < s.messages → has o.held (place_of (sent h)) ≡ s.holds m h
 
--- the verdict on the events number a and b, whatever these numbers are
-abbrev pub Judges : Content → Scene → ℕ → ℕ → Verdict → Type 0
-Judges c s a b verdict.NotPair = ¬ PairAt c a b
-Judges c s a b verdict.Fixed = PairAt c a b × (¬ Reversible s (event_at c a) (event_at c b))
-Judges c s a b (verdict.Reversible o) =
+-- the outlook on the events number a and b, or why there is none, whatever these numbers are
+abbrev pub Judges : Content → Scene → ℕ → ℕ → Result Outlook JudgeRefusal → Type 0
+Judges c s a b (Err NotPair) = ¬ PairAt c a b
+Judges c s a b (Err Fixed) = PairAt c a b × (¬ Reversible s (event_at c a) (event_at c b))
+Judges c s a b (Ok o) =
     PairAt c a b × Reversible s (event_at c a) (event_at c b) × Outlooks s (message_of (event_at c a)) (message_of (event_at c b)) o

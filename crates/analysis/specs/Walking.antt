@@ -1,17 +1,15 @@
 -- A walk over the reversible pairs, from the first to the last.
-use Rattle.std.specs.Prelude.{◌≡◌, ℕ, ◌+◌, ◌<◌, ◌≤◌, Bool, true, false, List, [], ◌∷◌, ◌++◌, map, length, take, Some, None, Option}
+use Rattle.std.specs.Prelude.{◌≡◌, ℕ, ◌+◌, ◌<◌, ◌≤◌, Bool, true, false, List, [], ◌∷◌, ◌++◌, map, length, MatchOption, Some, None, Option}
 use Rattle.chart.specs.Charted.{drawn}
-use Rattle.chart.specs.Content.{message_of, Content}
+use Rattle.chart.specs.Content.{Content}
 use Rattle.chart.specs.declared.numbers.EventId.{EventId}
 use Rattle.delivery.specs.declared.parcel.Tag.{Tag}
 use Rattle.order.specs.Pass.{rows}
 use Rattle.order.specs.Report.{upward, grid, is_reported}
 use Rattle.order.specs.Scenes.{scene_of, event_at}
-use Rattle.analysis.specs.Judging.{Filled, Foreseen}
-use Rattle.analysis.specs.Races.{InChart}
+use Rattle.analysis.specs.Judging.{Foresees}
 use Rattle.analysis.specs.declared.races.Race.{Race}
 use Rattle.analysis.specs.declared.walking.Sweep.{Sweep}
-use Rattle.analysis.specs.declared.walking.Walk.{Walk}
 
 -- the first number from low on, and below high, that passes a test
 abbrev pub FirstFrom : (ℕ → Bool) → ℕ → ℕ → Option EventId → Type 0
@@ -21,22 +19,16 @@ FirstFrom p low high (Some e) = (low ≤ e.0) × (e.0 < high) × (p e.0 ≡ true
 -- the pairs that come before the next one that a sweep judges, or all if nothing is left to judge
 abbrev pub passed : (ℕ → ℕ → Bool) → ℕ → Option Sweep → List (ℕ × ℕ)
 passed p n None = grid p n n
-passed p n (Some w) = grid p n w.first.0 ++ map (λ y. (w.first.0, y)) (upward (p w.first.0) w.next)
+passed p n (Some w) = grid p n w.prospect.first.0 ++ map (λ y. (w.prospect.first.0, y)) (upward (p w.prospect.first.0) w.next)
 
--- what a step of a walk over these gives, where k were given before it and j after it
-abbrev pub Step : List Race → ℕ → Option Race → ℕ → Type 0
-Step xs k None j = (length xs ≡ k) × (j ≡ k)
-Step xs k (Some x) j = (k < length xs) × (j ≡ k + 1) × (take (k + 1) xs ≡ take k xs ++ x ∷ [])
+-- what a walk shows: the pairs that are left, and how many were given
+pub record Course : Type 0 where
+  pub left : List Race
+  pub given : ℕ
 
--- what a walk over these gives as the pair number k, and how many it has given when there is no such pair
-abbrev pub Nth : List Race → ℕ → Option Race → ℕ → Type 0
-Nth xs k None j = (length xs ≤ k) × (j ≡ length xs)
-Nth xs k (Some x) j = (k < length xs) × (take (k + 1) xs ≡ take k xs ++ x ∷ [])
-
--- a pair that is given is one of the chart
-abbrev pub Known : Content → Option Race → Type 0
-Known c None = Unit {0}
-Known c (Some x) = InChart c x
+-- a step of a walk gives the first pair that is left, or none if none is
+abbrev pub Gives : Course → Option Race → Course → Type 0
+Gives s r t = MatchOption r ((s.left ≡ []) × (t.left ≡ []) × (t.given ≡ s.given)) (λ x. (s.left ≡ x ∷ t.left) × (t.given ≡ s.given + 1))
 
 module _ (c : Content) (rule : Tag → Tag → Bool) (room : ℕ) where
   -- whether a and b are a reversible pair
@@ -44,10 +36,9 @@ module _ (c : Content) (rule : Tag → Tag → Bool) (room : ℕ) where
   is_race = is_reported c (scene_of c rule room) (rows (scene_of c rule room) (length c.messages))
 
   pub record Sweeps (w : Sweep) : Type 0 where
-    pub inside : w.first.0 < length c.events
+    pub foresees : Foresees c (scene_of c rule room) w.prospect
     pub within : w.next ≤ length c.events
-    pub drawn_so : w.line ≡ drawn c (event_at c w.first.0)
-    pub foreseen : Foreseen (scene_of c rule room) (message_of (event_at c w.first.0)) w.prospect
+    pub drawn_so : w.line ≡ drawn c (event_at c w.prospect.first.0)
 
   abbrev pub SweepsOn : Option Sweep → Type 0
   SweepsOn None = Unit {0}
@@ -56,10 +47,9 @@ module _ (c : Content) (rule : Tag → Tag → Bool) (room : ℕ) where
   -- a sweep that begins with the event number f, or none if there is no such event
   abbrev pub Begins : ℕ → Option Sweep → Type 0
   Begins f None = length c.events ≤ f
-  Begins f (Some w) = Sweeps w × (w.first.0 ≡ f) × (w.next ≡ f + 1)
+  Begins f (Some w) = Sweeps w × (w.prospect.first.0 ≡ f) × (w.next ≡ f + 1)
 
-  -- the matrix is filled, and the walk has given the pairs before its place
-  pub record Walks (w : Walk) : Type 0 where
-    pub filled : Filled (scene_of c rule room) w.order
-    pub sweeps : SweepsOn w.sweep
-    pub given : w.given ≡ length (passed is_race (length c.events) w.sweep)
+  -- a walk has given so many pairs, those before its place
+  pub record Walks (sweep : Option Sweep) (given : ℕ) : Type 0 where
+    pub sweeps : SweepsOn sweep
+    pub gave : given ≡ length (passed is_race (length c.events) sweep)

@@ -1,7 +1,6 @@
 // The reversible pairs of a chart over a delivery: computed, reported, listed, and as values for programs.
 #![tactic(auto)]
 
-mod asking;
 pub mod filling;
 mod judging;
 pub mod listing;
@@ -10,12 +9,14 @@ pub mod races;
 pub mod records;
 pub mod refusals;
 pub mod reporting;
+mod setting;
+mod survey;
 mod walking;
-mod writing;
+pub mod writing;
 
 pub use filling::fill;
 pub use listing::listing_line;
-pub use outlook::{Outlook, Verdict, judge};
+pub use outlook::{Outlook, judge};
 pub use races::Race;
-pub use refusals::{ListingRefusal, ReportRefusal};
+pub use refusals::{JudgeRefusal, ListingRefusal, ReportRefusal};
 pub use reporting::report;

@@ -7,8 +7,9 @@ ghost use Rattle.analysis.specs.Writing.{Fronted};
 
 use super::races::Race;
 use super::refusals::ListingRefusal;
-use super::walking::Walk;
-use super::writing::{put, put_number};
+use super::setting::Setting;
+use super::survey::Survey;
+use super::writing::Writer;
 use chart::charting::Chart;
 use delivery::meaning::Delivery;
 
@@ -23,13 +24,15 @@ fn put_race(buffer: &mut [u8], chart: &Chart, race: Race) -> usize
     ensures long { result ≡ length (race_line (content chart.now) race) }
 {
     let name = chart.instances()[race.instance.0 as usize].text();
-    let mut place = put(buffer, 0, b"race ");
-    place = put_number(buffer, place, race.first.0 as usize);
-    place = put(buffer, place, b" ");
-    place = put_number(buffer, place, race.second.0 as usize);
-    place = put(buffer, place, b" ");
-    place = put(buffer, place, name);
-    put(buffer, place, b"\n")
+    let mut line = Writer::new(buffer);
+    line.push(b"race ");
+    line.push_number(race.first.0 as usize);
+    line.push(b" ");
+    line.push_number(race.second.0 as usize);
+    line.push(b" ");
+    line.push(name);
+    line.push(b"\n");
+    line.len
 }
 
 // `pairs N`
@@ -39,32 +42,38 @@ fn put_count(buffer: &mut [u8], pairs: usize) -> usize
     ensures front { Fronted buffer.old (count_line pairs) buffer.new }
     ensures long { result ≡ length (count_line pairs) }
 {
-    let mut place = put(buffer, 0, b"pairs ");
-    place = put_number(buffer, place, pairs);
-    put(buffer, place, b"\n")
+    let mut line = Writer::new(buffer);
+    line.push(b"pairs ");
+    line.push_number(pairs);
+    line.push(b"\n");
+    line.len
 }
 
 // Puts one line of the listing, counted from 0, at the front of the buffer, and answers its length: a line for each
 // reversible pair, in the report's order, and then their count.
+// Chart and delivery apart, as `fill` does and for its reason. `ExactPairs`, here and in the other promises, is a theorem on the two
+// and no state that a type could hold: each promise says for itself which pairs are told.
 pub fn listing_line<D: Delivery>(
     chart: &Chart,
     delivery: &D,
     line: usize,
     buffer: &mut [u8],
 ) -> Result<usize, ListingRefusal>
-    ensures answer { result ≡ line_answer (content chart.now) (races_of (content chart.now) (D.Delivery.rule delivery.now) (D.Delivery.room delivery.now)) line buffer.old }
-    ensures bytes { buffer.new ≡ line_written (content chart.now) (races_of (content chart.now) (D.Delivery.rule delivery.now) (D.Delivery.room delivery.now)) line buffer.old }
-    ensures exact { ExactPairs (content chart.now) (D.Delivery.rule delivery.now) (D.Delivery.room delivery.now) }
+    ensures answer { result ≡ line_answer (content chart.now) (races_of (content chart.now) (D.rule delivery.now) (D.room delivery.now)) line buffer.old }
+    ensures bytes { buffer.new ≡ line_written (content chart.now) (races_of (content chart.now) (D.rule delivery.now) (D.room delivery.now)) line buffer.old }
+    ensures exact { ExactPairs (content chart.now) (D.rule delivery.now) (D.room delivery.now) }
 {
     if buffer.len() < LINE_ROOM {
         return Err(ListingRefusal::TooShort);
     }
-    let mut walk = Walk::start(chart, delivery);
-    if let Some(race) = walk.nth(chart, delivery, line) {
+    let survey = Survey::of(Setting { chart, delivery });
+    let mut walk = survey.races();
+    if let Some(race) = walk.nth(line) {
         return Ok(put_race(buffer, chart, race));
     }
-    if line > walk.given {
+    let pairs = walk.given();
+    if line > pairs {
         return Err(ListingRefusal::BeyondLast);
     }
-    Ok(put_count(buffer, walk.given))
+    Ok(put_count(buffer, pairs))
 }

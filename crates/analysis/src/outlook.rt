@@ -1,20 +1,20 @@
-// The verdict on two events, and what is to be known of a reversible pair to have its second event first.
+// What is to be known of a reversible pair to have its second event first.
 ghost use Rattle.std.specs.Prelude.{◌≡◌, ◌<◌, length};
 ghost use Rattle.chart.specs.Charted.{content};
 ghost use Rattle.chart.specs.Content.{message_of};
-ghost use Rattle.order.specs.Order.{Scene};
 ghost use Rattle.order.specs.Scenes.{scene_of, event_at};
-ghost use Rattle.analysis.specs.Judging.{Filled, Foreseen};
+ghost use Rattle.analysis.specs.Judging.{Foresees};
 ghost use Rattle.analysis.specs.Outlooks.{Outlooks, Judges};
+ghost use Rattle.analysis.specs.Settings.{scene};
 
-use crate::asking::{message_at, place_of};
-use crate::filling::fill;
-use crate::judging::{Prospect, is_pair, is_race, prospect_of};
+use crate::judging::Prospect;
+use crate::refusals::JudgeRefusal;
+use crate::setting::{Setting, place_of};
+use crate::survey::Survey;
 use chart::charting::Chart;
 use chart::numbers::{EventId, MessageId};
 use chart::pieces::Event;
 use delivery::meaning::Delivery;
-use matrix::matrices::OrderMatrix;
 use matrix::sets::EventSet;
 
 // Of the messages of a reversible pair: the events before the out event of the second, those after the out event of the
@@ -28,52 +28,45 @@ pub struct Outlook {
     pub held: EventSet,
 }
 
-pub enum Verdict {
-    // The two events are no pair.
-    NotPair,
-    // They are, and always come as drawn.
-    Fixed,
-    Reversible(Outlook),
-}
-
-// The matrix and the prospect may be of any scene with the messages of this chart.
-fn outlook_of(
-    order: &OrderMatrix,
-    chart: &Chart,
-    prospect: &Prospect,
-    first: EventId,
-    second: EventId,
-) -> Outlook
-    requires first_inside { first.0 < length (content chart.now).events }
-    requires second_inside { second.0 < length (content chart.now).events }
-    ensures { (s : Scene) → s.messages ≡ length (content chart.now).messages → Filled s order.now → Foreseen s (message_of (event_at (content chart.now) first.0)) prospect.now → Outlooks s (message_of (event_at (content chart.now) first.0)) (message_of (event_at (content chart.now) second.0)) result }
-{
-    let (first, second) = (message_at(chart, first), message_at(chart, second));
-    Outlook {
-        first,
-        second,
-        before: *order.row(place_of(Event::Out(second))),
-        after: prospect.after,
-        held: prospect.held,
+impl<'a, D: Delivery> Survey<'a, D> {
+    fn outlook_of(&self, prospect: &Prospect, second: EventId) -> Outlook
+        requires foresees { Foresees (content self.now.setting.chart.now) (scene D.rule D.room self.now.setting) prospect.now }
+        requires inside { second.0 < length (content self.now.setting.chart.now).events }
+        ensures { Outlooks (scene D.rule D.room self.now.setting) (message_of (event_at (content self.now.setting.chart.now) prospect.now.first.0)) (message_of (event_at (content self.now.setting.chart.now) second.0)) result }
+    {
+        let second = self.setting.message_at(second);
+        Outlook {
+            first: self.setting.message_at(prospect.first),
+            second,
+            before: *self.order.row(place_of(Event::Out(second))),
+            after: prospect.after,
+            held: prospect.held,
+        }
     }
 }
 
 // Any two numbers may be asked about.
-pub fn judge<D: Delivery>(chart: &Chart, delivery: &D, first: EventId, second: EventId) -> Verdict
-    ensures { Judges (content chart.now) (scene_of (content chart.now) (D.Delivery.rule delivery.now) (D.Delivery.room delivery.now)) first.0 second.0 result }
+// Chart and delivery apart, as `fill` does and for its reason.
+pub fn judge<D: Delivery>(
+    chart: &Chart,
+    delivery: &D,
+    first: EventId,
+    second: EventId,
+) -> Result<Outlook, JudgeRefusal>
+    ensures { Judges (content chart.now) (scene_of (content chart.now) (D.rule delivery.now) (D.room delivery.now)) first.0 second.0 result }
 {
+    let setting = Setting { chart, delivery };
     let events = chart.events().len();
     if first.0 as usize >= events || second.0 as usize >= events {
-        return Verdict::NotPair;
+        return Err(JudgeRefusal::NotPair);
     }
-    if !is_pair(chart, first, second) {
-        return Verdict::NotPair;
+    if !setting.is_pair(first, second) {
+        return Err(JudgeRefusal::NotPair);
     }
-    let mut order = OrderMatrix::blank();
-    fill(&mut order, chart, delivery);
-    let prospect = prospect_of(&order, chart, delivery, first);
-    if !is_race(&order, chart, delivery, &prospect, first, second) {
-        return Verdict::Fixed;
+    let survey = Survey::of(setting);
+    let prospect = survey.prospect_of(first);
+    if !survey.is_race(&prospect, second) {
+        return Err(JudgeRefusal::Fixed);
     }
-    Verdict::Reversible(outlook_of(&order, chart, &prospect, first, second))
+    Ok(survey.outlook_of(&prospect, second))
 }

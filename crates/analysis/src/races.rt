@@ -3,7 +3,8 @@ ghost use Rattle.std.specs.Prelude.{◌≡◌, IfOk};
 ghost use Rattle.chart.specs.Charted.{content};
 ghost use Rattle.analysis.specs.Races.{races_of, ExactPairs};
 
-use super::walking::Walk;
+use super::setting::Setting;
+use super::survey::Survey;
 use chart::charting::Chart;
 use chart::numbers::{EventId, InstanceId};
 use chart::pieces::Side;
@@ -20,18 +21,15 @@ pub struct Race {
 }
 
 // All reversible pairs, rising by the first event and then by the second.
+// Chart and delivery apart, as `fill` does and for its reason.
 pub fn races<D: Delivery>(
     heap: Global,
     chart: &Chart,
     delivery: &D,
 ) -> Result<Vec<Race>, AllocError>
-    ensures lists { IfOk result (λ v. v.items ≡ races_of (content chart.now) (D.Delivery.rule delivery.now) (D.Delivery.room delivery.now)) }
-    ensures exact { ExactPairs (content chart.now) (D.Delivery.rule delivery.now) (D.Delivery.room delivery.now) }
+    ensures lists { IfOk result (λ v. v.items ≡ races_of (content chart.now) (D.rule delivery.now) (D.room delivery.now)) }
+    ensures exact { ExactPairs (content chart.now) (D.rule delivery.now) (D.room delivery.now) }
 {
-    let mut walk = Walk::start(chart, delivery);
-    let mut races = Vec::new(heap);
-    while let Some(race) = walk.next(chart, delivery) {
-        races.push(race)?;
-    }
-    Ok(races)
+    let survey = Survey::of(Setting { chart, delivery });
+    survey.races().collect(heap)
 }

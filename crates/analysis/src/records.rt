@@ -7,6 +7,7 @@ use chart::pieces::Side;
 
 pub const RECORD_BYTES: usize = 4;
 
+// The format of a record gives these numbers; a side has none of its own.
 fn side_byte(side: Side) -> u8
     ensures { result ≡ side_byte side }
 {
@@ -16,6 +17,7 @@ fn side_byte(side: Side) -> u8
     }
 }
 
+// Not a `From`, which has to take any race: a record has a byte for each number, and only those of a chart surely fit one.
 pub(crate) fn record_of(race: Race) -> [u8; RECORD_BYTES]
     requires { Small race }
     ensures { result ≡ record_of race }

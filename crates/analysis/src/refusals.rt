@@ -1,4 +1,4 @@
-// Why a report or a line of the listing comes back.
+// Why a report, a line of the listing or an outlook comes back.
 ghost use Rattle.std.specs.Prelude.{◌≡◌};
 ghost use Rattle.analysis.specs.Refusals.{report_refusal, listing_refusal};
 
@@ -16,7 +16,16 @@ pub enum ListingRefusal {
     BeyondLast,
 }
 
+#[derive(Clone, Copy, PartialEq, Eq, Debug)]
+pub enum JudgeRefusal {
+    // The two events are no pair.
+    NotPair,
+    // They are, and always come as drawn.
+    Fixed,
+}
+
 impl ReportRefusal {
+    // By hand here and below: the project gives each refusal its number, and two may share one.
     pub fn number(self) -> u8
         ensures { result ≡ (report_refusal self).0 }
     {

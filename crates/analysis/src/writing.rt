@@ -1,26 +1,59 @@
-// Putting bytes into a buffer at a place. Each call answers the place after them.
-ghost use Rattle.std.specs.Prelude.{◌≡◌, ◌+◌, ◌≤◌, length, decimal};
-ghost use Rattle.analysis.specs.Writing.{Pasted};
+// Putting bytes at the front of a buffer, one piece after another.
+ghost use Rattle.std.specs.Prelude.{◌≡◌, ◌+◌, ◌≤◌, [], length, decimal};
+ghost use Rattle.analysis.specs.Writing.{Wrote, Puts, Tries};
 
-pub(crate) fn put(buffer: &mut [u8], at: usize, bytes: &[u8]) -> usize
-    requires { at + length bytes.now ≤ length buffer.old }
-    ensures pasted { Pasted buffer.old at bytes.now buffer.new }
-    ensures place { result ≡ at + length bytes.now }
-{
-    let end = at + bytes.len();
-    buffer[at..end].copy_from_slice(bytes);
-    end
+// The buffer has no room for what was to be put.
+#[derive(Clone, Copy, PartialEq, Eq, Debug)]
+pub struct NoRoom;
+
+// A writer is the caller's buffer and how much of it is written: no call allocates one of its own.
+#[derive(Drop)]
+pub struct Writer<'a> {
+    buffer: &'a mut [u8],
+    // how many bytes were put
+    pub(crate) len: usize,
 }
 
-// The number in decimal digits.
-pub(crate) fn put_number(buffer: &mut [u8], at: usize, number: usize) -> usize
-    requires { at + length (decimal number) ≤ length buffer.old }
-    ensures pasted { Pasted buffer.old at (decimal number) buffer.new }
-    ensures place { result ≡ at + length (decimal number) }
-{
-    if number < 10 {
-        return put(buffer, at, &[b'0' + number as u8]);
+impl<'a> Writer<'a> {
+    pub fn new(buffer: &'a mut [u8]) -> Writer<'a>
+        ensures same_reference { result.buffer.ghost_name ≡ buffer.entry.ghost_name }
+        ensures empty { Wrote buffer.old [] result }
+        ensures room { length result.buffer.now ≡ length buffer.old }
+    {
+        Writer { buffer, len: 0 }
     }
-    let place = put_number(buffer, at, number / 10);
-    put(buffer, place, &[b'0' + (number % 10) as u8])
+
+    // Puts nothing where there is no room for all the bytes.
+    pub fn put(&mut self, bytes: &[u8]) -> Result<(), NoRoom>
+        ensures { Tries self.old bytes.now result self.new }
+    {
+        let room = self.buffer.len();
+        if self.len > room || bytes.len() > room - self.len {
+            return Err(NoRoom);
+        }
+        self.push(bytes);
+        Ok(())
+    }
+
+    pub(crate) fn push(&mut self, bytes: &[u8])
+        requires { self.old.len + length bytes.now ≤ length self.old.buffer.now }
+        ensures { Puts self.old bytes.now self.new }
+    {
+        let end = self.len + bytes.len();
+        self.buffer[self.len..end].copy_from_slice(bytes);
+        self.len = end;
+    }
+
+    // The number in decimal digits. A `write!` would not do: what it promises holds where it succeeds, and that it does
+    // succeed where there is room is not known.
+    pub(crate) fn push_number(&mut self, number: usize)
+        requires { self.old.len + length (decimal number) ≤ length self.old.buffer.now }
+        ensures { Puts self.old (decimal number) self.new }
+    {
+        if number < 10 {
+            return self.push(&[b'0' + number as u8]);
+        }
+        self.push_number(number / 10);
+        self.push(&[b'0' + (number % 10) as u8]);
+    }
 }

@@ -1,6 +1,8 @@
 // Why a schedule comes back.
 ghost use Rattle.std.specs.Prelude.{◌≡◌};
-ghost use Rattle.scheduling.specs.Refusals.{schedule_number};
+ghost use Rattle.scheduling.specs.Refusals.{schedule_number, unjudged};
+
+use analysis::refusals::JudgeRefusal;
 
 #[derive(Clone, Copy, PartialEq, Eq, Debug)]
 pub enum ScheduleRefusal {
@@ -13,6 +15,7 @@ pub enum ScheduleRefusal {
 }
 
 impl ScheduleRefusal {
+    // By hand: the project gives each refusal its number.
     pub fn number(self) -> u8
         ensures { result ≡ schedule_number self }
     {
@@ -20,6 +23,17 @@ impl ScheduleRefusal {
             ScheduleRefusal::NotPair => 14,
             ScheduleRefusal::NotReversible => 15,
             ScheduleRefusal::TooShort => 16,
+        }
+    }
+}
+
+impl From<JudgeRefusal> for ScheduleRefusal {
+    ghost from_gives = { λ refusal result. result ≡ unjudged refusal };
+
+    fn from(refusal: JudgeRefusal) -> ScheduleRefusal {
+        match refusal {
+            JudgeRefusal::NotPair => ScheduleRefusal::NotPair,
+            JudgeRefusal::Fixed => ScheduleRefusal::NotReversible,
         }
     }
 }

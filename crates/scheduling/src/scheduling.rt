@@ -3,15 +3,17 @@ ghost use Rattle.chart.specs.Charted.{content};
 ghost use Rattle.scheduling.specs.Scheduling.{Schedules};
 
 use super::firings::FIRING_BYTES;
-use super::passes::put_all;
+use super::passes::Plan;
 use super::refusals::ScheduleRefusal;
-use analysis::outlook::{Verdict, judge};
+use analysis::outlook::judge;
+use analysis::writing::Writer;
 use chart::charting::Chart;
 use chart::numbers::EventId;
 use delivery::meaning::Delivery;
 
 // Puts a record for each event at the front of the buffer, in an order of firing that has the second event before the first
 // and lets as few messages wait at once as can be, and answers how many there are.
+// Chart and delivery apart, since the signature is asked for.
 pub fn schedule<D: Delivery>(
     chart: &Chart,
     delivery: &D,
@@ -19,17 +21,17 @@ pub fn schedule<D: Delivery>(
     second: EventId,
     buffer: &mut [u8],
 ) -> Result<usize, ScheduleRefusal>
-    ensures { Schedules (content chart.now) (D.Delivery.rule delivery.now) (D.Delivery.room delivery.now) first.0 second.0 buffer.old result buffer.new }
+    ensures { Schedules (content chart.now) (D.rule delivery.now) (D.room delivery.now) first.0 second.0 buffer.old result buffer.new }
 {
-    let outlook = match judge(chart, delivery, first, second) {
-        Verdict::NotPair => return Err(ScheduleRefusal::NotPair),
-        Verdict::Fixed => return Err(ScheduleRefusal::NotReversible),
-        Verdict::Reversible(outlook) => outlook,
-    };
+    let outlook = judge(chart, delivery, first, second)?;
     let events = chart.events().len();
     if buffer.len() < FIRING_BYTES * events {
         return Err(ScheduleRefusal::TooShort);
     }
-    put_all(buffer, chart, &outlook);
+    let plan = Plan {
+        chart,
+        outlook: &outlook,
+    };
+    plan.put_all(&mut Writer::new(buffer));
     Ok(events)
 }

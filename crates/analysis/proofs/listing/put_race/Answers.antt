@@ -1,4 +1,4 @@
-use Rattle.std.proofs.Common.{◌≡◌, ℕ, ◌<◌, ◌≤◌, List, [], ◌++◌, length, get_or, vec_items, codes, decimal, ap, ◌∙◌, subst, append_assoc, arith}
+use Rattle.std.proofs.Common.{◌≡◌, ℕ, ◌<◌, ◌≤◌, List, [], ◌++◌, length, get_or, vec_items, codes, decimal, ap, ◌∙◌, subst, append_assoc, arith, rules}
 use Rattle.std.proofs.lemmas.List.{length-map}
 use Rattle.chart.specs.Charted.{content}
 use Rattle.chart.specs.Names.{text_of}
@@ -9,7 +9,7 @@ use Rattle.analysis.specs.Races.{InChart}
 use Rattle.analysis.specs.Writing.{Fronted}
 use Rattle.analysis.specs.declared.races.Race.{Race}
 use Rattle.analysis.proofs.Sweeping.{few_events}
-use Rattle.analysis.proofs.Telling.{text_first, text_more, length_take_most, digits_three}
+use Rattle.analysis.proofs.Telling.{length_take_most, digits_three}
 use Rattle.analysis.proofs.listing.put_race.Goals as goal
 
 regrouped : (a b s d t n e : List ℕ) → (((((a ++ b) ++ s) ++ d) ++ t) ++ n) ++ e ≡ a ++ (b ++ (s ++ (d ++ (t ++ (n ++ e)))))
@@ -38,81 +38,47 @@ name_short n t e =
     let s : n.len ≤ 24 = n.short in
     omega (arith, ap length e, length_take_most n.len n.bytes)
 
-pub bounds-instances-race : goal.bounds-instances-race
-bounds-instances-race c = inside c.args.chart.now c.args.race c.requires.known c.instances.result.now c.instances.ensures
+pub push_number-requires : goal.push_number-requires
+push_number-requires c = let a = first_short c.args.chart.now c.args.race c.requires.known in grind arith
 
-pub put_number-place-requires : goal.put_number-place-requires
-put_number-place-requires c =
-    let a = first_short c.args.chart.now c.args.race c.requires.known in
-    omega (arith, c.requires.room, c.put-place.auto.buffer, c.put-place.ensures.place)
+pub push-requires-2 : goal.push-requires-2
+push-requires-2 c = let a = first_short c.args.chart.now c.args.race c.requires.known in grind arith
 
-pub put-place-requires-2 : goal.put-place-requires-2
-put-place-requires-2 c =
-    let a = first_short c.args.chart.now c.args.race c.requires.known in
-    omega (arith, c.requires.room, c.put-place.auto.buffer, c.put-place.ensures.place, c.put_number-place.auto.buffer, c.put_number-place.ensures.place)
-
-pub put_number-place-requires-2 : goal.put_number-place-requires-2
-put_number-place-requires-2 c =
+pub push_number-requires-2 : goal.push_number-requires-2
+push_number-requires-2 c =
     let a = first_short c.args.chart.now c.args.race c.requires.known in
     let b = second_short c.args.chart.now c.args.race c.requires.known in
-    omega (arith, c.requires.room, c.put-place.auto.buffer, c.put-place.ensures.place, c.put_number-place.auto.buffer, c.put_number-place.ensures.place, c.put-place-2.auto.buffer, c.put-place-2.ensures.place)
+    grind arith
 
-pub put-place-requires-3 : goal.put-place-requires-3
-put-place-requires-3 c =
+pub push-requires-3 : goal.push-requires-3
+push-requires-3 c =
     let a = first_short c.args.chart.now c.args.race c.requires.known in
     let b = second_short c.args.chart.now c.args.race c.requires.known in
-    omega (arith, c.requires.room, c.put-place.auto.buffer, c.put-place.ensures.place, c.put_number-place.auto.buffer, c.put_number-place.ensures.place, c.put-place-2.auto.buffer, c.put-place-2.ensures.place, c.put_number-place-2.auto.buffer, c.put_number-place-2.ensures.place)
+    grind arith
 
-pub put-place-requires-4 : goal.put-place-requires-4
-put-place-requires-4 c =
+pub push-requires-4 : goal.push-requires-4
+push-requires-4 c =
     let a = first_short c.args.chart.now c.args.race c.requires.known in
     let b = second_short c.args.chart.now c.args.race c.requires.known in
-    let n = name_short c.index-instances-race.result c.text-name.result.now c.text-name.ensures in
-    omega (arith, c.requires.room, c.put-place.auto.buffer, c.put-place.ensures.place, c.put_number-place.auto.buffer, c.put_number-place.ensures.place, c.put-place-2.auto.buffer, c.put-place-2.ensures.place, c.put_number-place-2.auto.buffer, c.put_number-place-2.ensures.place, c.put-place-3.auto.buffer, c.put-place-3.ensures.place)
+    let n = name_short c.index-instances-race.result _ c.text-name.ensures in
+    grind arith
 
-pub put-requires : goal.put-requires
-put-requires c =
+pub push-requires-5 : goal.push-requires-5
+push-requires-5 c =
     let a = first_short c.args.chart.now c.args.race c.requires.known in
     let b = second_short c.args.chart.now c.args.race c.requires.known in
-    let n = name_short c.index-instances-race.result c.text-name.result.now c.text-name.ensures in
-    omega (arith, c.requires.room, c.put-place.auto.buffer, c.put-place.ensures.place, c.put_number-place.auto.buffer, c.put_number-place.ensures.place, c.put-place-2.auto.buffer, c.put-place-2.ensures.place, c.put_number-place-2.auto.buffer, c.put_number-place-2.ensures.place, c.put-place-3.auto.buffer, c.put-place-3.ensures.place, c.put-place-4.auto.buffer, c.put-place-4.ensures.place)
+    let n = name_short c.index-instances-race.result _ c.text-name.ensures in
+    grind arith
 
-pub returns : goal.returns
-returns c =
+pub returns-clause-front : goal.returns-clause-front
+returns-clause-front c =
     let chart = c.args.chart.now in
     let x = c.args.race in
-    let a = first_short chart x c.requires.known in
-    let b = second_short chart x c.requires.known in
-    let name = c.text-name.result.now in
-    let short = name_short c.index-instances-race.result name c.text-name.ensures in
-    let old = c.args.buffer.now in
-    let room = c.requires.room in
-    let p₁ = c.put-place in
-    let p₂ = c.put_number-place in
-    let p₃ = c.put-place-2 in
-    let p₄ = c.put_number-place-2 in
-    let p₅ = c.put-place-3 in
-    let p₆ = c.put-place-4 in
-    let e₁ = p₁.ensures.place in
-    let e₂ = p₂.ensures.place in
-    let e₃ = p₃.ensures.place in
-    let e₄ = p₄.ensures.place in
-    let e₅ = p₅.ensures.place in
-    let e₆ = p₆.ensures.place in
-    let w₁ = codes "race " in
-    let w₂ = w₁ ++ decimal x.first.0 in
-    let w₃ = w₂ ++ codes " " in
-    let w₄ = w₃ ++ decimal x.second.0 in
-    let w₅ = w₄ ++ codes " " in
-    let t₁ = text_first old w₁ p₁.new.buffer p₁.result p₁.ensures.pasted e₁ in
-    let t₂ = text_more old w₁ p₁.new.buffer (decimal x.first.0) p₂.new.buffer p₁.result p₂.result t₁ (omega arith) p₂.ensures.pasted e₂ in
-    let t₃ = text_more old w₂ p₂.new.buffer (codes " ") p₃.new.buffer p₂.result p₃.result t₂ (omega arith) p₃.ensures.pasted e₃ in
-    let t₄ = text_more old w₃ p₃.new.buffer (decimal x.second.0) p₄.new.buffer p₃.result p₄.result t₃ (omega arith) p₄.ensures.pasted e₄ in
-    let t₅ = text_more old w₄ p₄.new.buffer (codes " ") p₅.new.buffer p₄.result p₅.result t₄ (omega arith) p₅.ensures.pasted e₅ in
-    let t₆ = text_more old w₅ p₅.new.buffer name p₆.new.buffer p₅.result p₆.result t₅ (omega arith) p₆.ensures.pasted e₆ in
-    let t₇ = text_more old (w₅ ++ name) p₆.new.buffer (codes "\n") c.put.new.buffer p₆.result c.put.result t₆ (omega arith) c.put.ensures.pasted c.put.ensures.place in
-    let named : name ≡ get_or (content chart).instances x.instance.0 [] =
-    c.text-name.ensures ∙ name_is chart x c.requires.known c.instances.result.now c.instances.ensures c.index-instances-race.result c.index-instances-race.is in
-    let whole = regrouped w₁ (decimal x.first.0) (codes " ") (decimal x.second.0) (codes " ") name (codes "\n")
-    ∙ ap (λ (n : List ℕ). w₁ ++ (decimal x.first.0 ++ (codes " " ++ (decimal x.second.0 ++ (codes " " ++ (n ++ codes "\n")))))) named in
-    record { front = subst (λ (ys : List ℕ). Fronted old ys c.put.new.buffer) whole t₇.front; long = t₇.long ∙ ap length whole }
+    let name = c.text-name.ensures ∙ name_is chart x c.requires.known c.instances.result.now c.instances.ensures c.index-instances-race.result c.index-instances-race.is in
+    let begun = c.push-2.ensures.adds _ _ (c.push_number.ensures.adds _ _ (c.push.ensures.adds _ _ c.new-line.ensures.empty)) in
+    let line = c.push-5.ensures.adds _ _ (c.push-4.ensures.adds _ _ (c.push-3.ensures.adds _ _ (c.push_number-2.ensures.adds _ _ begun))) in
+    (search rules)
+    ∙ subst (λ ys. Fronted c.args.buffer.now ys c.push-5.new.self.buffer.now)
+    (regrouped (codes "race ") (decimal x.first.0) (codes " ") (decimal x.second.0) (codes " ") c.text-name.result.now (codes "\n")
+    ∙ ap (λ (t : List ℕ). codes "race " ++ (decimal x.first.0 ++ (codes " " ++ (decimal x.second.0 ++ (codes " " ++ (t ++ codes "\n")))))) name)
+    line.front

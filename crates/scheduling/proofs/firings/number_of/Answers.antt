@@ -1,18 +1,18 @@
+use Rattle.std.proofs.Common.{◌≡◌, true, false, sym, ◌∙◌, rules}
+use Rattle.std.proofs.lemmas.Iterator.{IsFirst-from_position, YieldsList-from_slice}
 use Rattle.chart.specs.Shown.{happening}
-use Rattle.scheduling.proofs.Numbers.{number_begins, number_found, number_later, number_after}
+use Rattle.chart.specs.contracts.pieces.EventPartialEq.TheImpl as event
+use Rattle.order.specs.Pass.{same}
+use Rattle.analysis.proofs.Same.{equal_events}
+use Rattle.scheduling.proofs.Numbers.{number_found}
 use Rattle.scheduling.proofs.firings.number_of.Goals as goal
-
-pub loop-i-init : goal.loop-i-init
-loop-i-init c = number_begins c.args.chart.now (happening c.args.event) c.events-events.result.now c.events-events.ensures
-
-pub returns-then-is_same : goal.returns-then-is_same
-returns-then-is_same c =
-    number_found c.args.chart.now (happening c.args.event) c.events-events.result.now c.events-events.ensures c.loop-i.i _ c.loop-i-test.true c.loop-i.invariant c.if-is_same.ensures
-
-pub loop-i-preserved : goal.loop-i-preserved
-loop-i-preserved c =
-    number_later c.args.chart.now (happening c.args.event) c.events-events.result.now c.events-events.ensures c.loop-i.i _ c.loop-i-test.true c.loop-i.invariant c.if-is_same.ensures
 
 pub returns : goal.returns
 returns c =
-    number_after c.args.chart.now (happening c.args.event) c.events-events.result.now c.events-events.ensures c.loop-i.i c.loop-i-test.false c.loop-i.auto.i-end c.loop-i.invariant
+    let e = happening c.args.event in
+    let xs = c.events-events.result.now in
+    let first =
+    IsFirst-from_position _ _ c.position-number.result (λ x. same e (happening x) ≡ true) (λ x. same e (happening x) ≡ false) c.position-number.ensures.ran (YieldsList-from_slice xs c.iter.ensures.rest)
+    (λ x q k. let h : event.ghosts.eq x.now c.args.event ≡ true = search rules in sym (equal_events x.now c.args.event) ∙ h)
+    (λ x q k. let h : event.ghosts.eq x.now c.args.event ≡ false = search rules in (search rules, sym (equal_events x.now c.args.event) ∙ h)) in
+    c.unwrap_or.ensures ∙ number_found c.args.chart.now e xs c.events-events.ensures c.position-number.result first
