@@ -167,7 +167,7 @@ module _ (g : Stage) (s : State) (ready : Ready g s) where
     next_run may = subst (λ p. Run (scene_on g) p) (sym (past_push c r e)) (fired ready.run may)
 
     -- what the record says against an event, and then the delivery, is all there is
-    module _ (none : (h : Happening) → event_at c e.0 ≡ h → Against g s e h None) where
+    module _ (none : (h : Happening) → event_at c e.0 ≡ h → Against g s e h (Ok tt)) where
       not_fired : (h : Happening) → event_at c e.0 ≡ h → Has e r → ⊥
       not_fired (sent n) is k = none (sent n) is InRecord (omega arith) k
       not_fired (received n) is k = none (received n) is InRecord (omega arith) k

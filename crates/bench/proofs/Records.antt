@@ -1,5 +1,5 @@
 -- What a record has, and how much room it needs.
-use Rattle.std.proofs.Common.{◌≡◌, ℕ, zero, suc, ◌<◌, ◌≤◌, true, false, not, eqb, ltb, ◌⊎◌, List, [], ◌∷◌, ◌++◌, map, reverse, length, get_or, sym, refl, ap, ◌∙◌, subst, inl, inr, ⊎_elim, arith}
+use Rattle.std.proofs.Common.{◌≡◌, ℕ, zero, suc, ◌<◌, ◌≤◌, true, false, not, eqb, ltb, ◌⊎◌, List, [], ◌∷◌, ◌++◌, map, reverse, length, sym, refl, ap, ◌∙◌, subst, inl, inr, ⊎_elim, arith}
 use mathlib.Core.List.{reverse-cons}
 use Rattle.std.proofs.lemmas.List.{map_push, reverse-append, length-map}
 use Rattle.std.proofs.lemmas.Bool.{both_ways, false≢true, or_cases, or_parts, or_from, or_left, or_right, and_parts, and_from, not-true, not_from_false, eqb-true, eqb-false, eq-eqb, ne_eqb, ltb-true, lt-ltb}
@@ -50,16 +50,6 @@ within_push n [] e w l = and_from (ltb e.0 n) true (lt-ltb e.0 n l) refl
 within_push n (x ∷ r) e w l =
     let both = and_parts (ltb x.0 n) (within n r) w in
     and_from (ltb x.0 n) (within n (r ++ e ∷ [])) both.0 (within_push n r e both.1 l)
-
-pub within_at : (n : ℕ) (r : List EventId) (k : ℕ) (d : EventId) → within n r ≡ true → k < length r → (get_or r k d).0 < n
-within_at n [] k d w l = absurd (omega arith)
-within_at n (x ∷ r) zero d w l = ltb-true x.0 n (and_parts (ltb x.0 n) (within n r) w).0
-within_at n (x ∷ r) (suc k) d w l = within_at n r k d (and_parts (ltb x.0 n) (within n r) w).1 (omega arith)
-
-pub within_has : (n : ℕ) (r : List EventId) (e : EventId) → within n r ≡ true → Has e r → e.0 < n
-within_has n [] e w h = absurd h
-within_has n (x ∷ r) e w (inl p) = subst (λ (y : EventId). y.0 < n) (sym p) (ltb-true x.0 n (and_parts (ltb x.0 n) (within n r) w).0)
-within_has n (x ∷ r) e w (inr h) = within_has n r e (and_parts (ltb x.0 n) (within n r) w).1 h
 
 -- a record without repeats has no more events than there are numbers for them
 abbrev upto : ℕ → List ℕ

@@ -1,5 +1,6 @@
 -- Which refusal is the one with the smallest number.
-use Rattle.std.proofs.Common.{◌≡◌, ℕ, ◌<◌, ◌≤◌, length, None, sym, refl, arith}
+use Rattle.std.proofs.Common.{◌≡◌, ℕ, ◌<◌, ◌≤◌, length, Some, None, Option, MatchOption, Ok, Err, Result, MatchResult, IsErrAnd, is_ok, true, sym, refl, ap, subst, arith}
+use Rattle.std.proofs.lemmas.Bool.{true≢false}
 use Rattle.chart.specs.Charted.{drawn}
 use Rattle.chart.specs.Content.{Happening, sent, received, message_of}
 use Rattle.chart.specs.declared.numbers.EventId.{EventId}
@@ -45,7 +46,7 @@ module _ (g : Stage) (s : State) (e : EventId) where
         lower (Full y) l k = omega arith
         lower (Held m y) l k = k
 
-    pub none_above : (h : Happening) → (drawn g.chart h).side ≡ Out → ((x : EventId) → Lacks g.chart s.fired e x → ⊥) → Against g s e h None
+    pub none_above : (h : Happening) → (drawn g.chart h).side ≡ Out → ((x : EventId) → Lacks g.chart s.fired e x → ⊥) → Against g s e h (Ok tt)
     none_above (received n) is none = absurd (not_out (sym is))
     none_above (sent n) is none = lower
       where
@@ -55,6 +56,14 @@ module _ (g : Stage) (s : State) (e : EventId) where
         lower OutMissing l k = k
         lower (Full y) l k = omega arith
         lower (Held m y) l k = k
+
+    -- told by the first event that lacks
+    pub above_told :
+        (h : Happening) → (drawn g.chart h).side ≡ Out → (o : Option EventId) (r : Result Unit Obstacle) →
+        MatchOption o ((x : EventId) → Lacks g.chart s.fired e x → ⊥) (λ x. FirstLacking g.chart s.fired e x) →
+        MatchOption o (r ≡ Ok tt) (λ x. r ≡ Err (AboveMissing x)) → Against g s e h r
+    above_told h is None r none told = subst (Against g s e h) (sym told) (none_above h is none)
+    above_told h is (Some x) r first told = subst (Against g s e h) (sym told) (above_missing h x is first)
 
     pub out_missing : (h : Happening) → (drawn g.chart h).side ≡ In → (Has (sent (message_of h)) (past g.chart s.fired) → ⊥) → LeastObstacle g s e h OutMissing
     out_missing (sent n) is none = absurd (not_out is)
@@ -67,7 +76,7 @@ module _ (g : Stage) (s : State) (e : EventId) where
         lower (Full y) l k = k
         lower (Held m y) l k = omega arith
 
-    pub out_there : (h : Happening) → (drawn g.chart h).side ≡ In → Has (sent (message_of h)) (past g.chart s.fired) → Against g s e h None
+    pub out_there : (h : Happening) → (drawn g.chart h).side ≡ In → Has (sent (message_of h)) (past g.chart s.fired) → Against g s e h (Ok tt)
     out_there (sent n) is there = absurd (not_out is)
     out_there (received n) is there = lower
       where
@@ -111,3 +120,15 @@ module _ (g : Stage) (s : State) (e : EventId) where
     unbarred none (BadSchedule p) k = k
     unbarred none NoPlay k = k
     unbarred none NoEventLeft k = k
+
+-- a refused step of a firing, as its refusal
+pub told_as :
+    {Told : Obstacle → Type 0} (q : Result (Unit {0}) Refusal) (r : Result (Unit {0}) Obstacle) (f : Refusal) →
+    IsErrAnd q (λ y. y ≡ f) → MatchResult r (λ x. ◌≡◌ {A = Result (Unit {0}) Refusal} (Err f) (Ok x)) Told → (o : Obstacle) × (r ≡ Err o) × (q ≡ Err f) × Told o
+told_as (Ok u) r f same gave = absurd same
+told_as (Err y) (Ok u) f same gave = absurd (let z : ◌≡◌ {A = ℕ} 0 1 = cc in omega arith)
+told_as (Err y) (Err o) f same gave = (o, refl, ap (λ (x : Refusal). Err x) same, gave)
+
+pub passed : (r : Result (Unit {0}) Obstacle) → true ≡ is_ok r → r ≡ Ok tt
+passed (Ok u) e = refl
+passed (Err o) e = absurd (true≢false e)

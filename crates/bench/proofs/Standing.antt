@@ -1,5 +1,5 @@
 -- How a bench stays sound.
-use Rattle.std.proofs.Common.{◌≡◌, ℕ, ◌<◌, ◌≤◌, Bool, true, false, List, [], ◌∷◌, ◌++◌, length, is_some, Some, None, Ok, Err, vec_items, vec_len, Option, Result, sym, refl, ap, ◌∙◌, subst, inr, ⊎_elim, arith}
+use Rattle.std.proofs.Common.{◌≡◌, ℕ, ◌<◌, ◌≤◌, false, List, [], ◌∷◌, ◌++◌, length, is_some, Some, None, Ok, Err, vec_items, vec_len, Option, Result, sym, refl, ap, ◌∙◌, subst, inr, ⊎_elim, arith}
 use Rattle.std.proofs.lemmas.Bool.{both_ways, true≢false}
 use Rattle.chart.specs.Charted.{content}
 use Rattle.chart.specs.Content.{Content}
@@ -16,16 +16,15 @@ use Rattle.order.specs.Runs as runs
 use Rattle.order.specs.Scenes.{Laid}
 use Rattle.order.proofs.Lists.{has_cases}
 use Rattle.order.proofs.Scenes.{Transitive, laws}
-use Rattle.bench.specs.Benches.{play_at, InStep, stage_of, state_of, Sound, Same}
-use Rattle.bench.specs.Firings.{Bars, BarsFire, BarsClear, ByRules, MayFireNext, Tried, Fired}
+use Rattle.bench.specs.Benches.{InStep, stage_of, state_of, Sound, Same}
+use Rattle.bench.specs.Firings.{Bars, BarsFire, ByRules, MayFireNext, Tried, Fired}
 use Rattle.bench.specs.Layouts.{copied}
 use Rattle.bench.specs.Records.{past}
-use Rattle.bench.specs.States.{Stage, scene_on, Play, State, Least}
-use Rattle.bench.specs.Refusals.{refusal_number}
-use Rattle.bench.specs.declared.refusal.Obstacle.TheVariants.{InRecord, AboveMissing, OutMissing, Full, Held}
+use Rattle.bench.specs.States.{Stage, scene_on, Play, play_at, play_of, State}
 use Rattle.bench.specs.declared.refusal.Refusal.{Refusal}
 use Rattle.bench.specs.declared.refusal.Refusal.TheVariants.{PlayOpen, NotInChart, Unfired, RecordNotEmpty, BadSchedule, NoPlay, NoEventLeft}
 use Rattle.bench.specs.declared.schedule.Entry.{Entry}
+use Rattle.bench.specs.declared.schedule.Script.{Script}
 use Rattle.bench.specs.declared.stand.Bench.{Bench}
 use Rattle.bench.proofs.Firings.{Ready, unstopped, next_run}
 use Rattle.bench.proofs.Refusing.{unbarred}
@@ -42,26 +41,22 @@ pub open_same : (k : Option ℕ) (es : List Entry) → is_some (play_at k es) �
 open_same None es = refl
 open_same (Some k) es = refl
 
-pub shut : (k : Option ℕ) (es : List Entry) (b : Bool) → b ≡ is_some k → b ≡ false → is_some (play_at k es) ≡ false
-shut k es b is left = open_same k es ∙ sym is ∙ left
-
-pub opened : (k : Option ℕ) (es : List Entry) (b : Bool) → b ≡ is_some k → b ≡ true → is_some (play_at k es) ≡ true
-opened k es b is taken = open_same k es ∙ sym is ∙ taken
+-- while no play is open, its entries are not seen
+pub unseen : (s t : Script) → is_some s.done ≡ false → t.done ≡ s.done → play_of t ≡ play_of s
+unseen s t closed same =
+    ap (λ k. play_at k (vec_items t.entries)) (same ∙ none_from s.done closed) ∙ sym (ap (λ k. play_at k (vec_items s.entries)) (none_from s.done closed))
 
 pub few_messages : (chart : Chart) → length (content chart).messages ≤ message_limit
 few_messages chart =
-    let few : vec_len chart.parts.messages ≤ 64 = chart.few_messages in
+    let few : vec_len chart.parts.messages ≤ 64 = chart.parts.few_messages in
     let count = message_count chart.parts in
     omega arith
-
-pub unmoved : {D : Type 0} (G : Ghosts D) (b : Bench D) → Same G b b
-unmoved G b = record { layout = refl; rule = refl; room = refl; layer = refl }
 
 module _ {D : Type 0} (G : Ghosts D) (c : Content) where
   -- an empty record and an empty delivery stand at the start of a run
   pub cleared_sound :
-      (b : Bench D) → G.started b.delivery → Laid c → length c.messages ≤ message_limit → vec_items b.layout.places ≡ copied c →
-      vec_items b.fired ≡ [] → G.waiting b.delivery ≡ [] → b.next ≡ None → Sound G c b
+      (b : Bench D) → G.started b.delivery → Laid c → length c.messages ≤ message_limit → vec_items b.log.layout.places ≡ copied c →
+      vec_items b.log.fired ≡ [] → G.waiting b.delivery ≡ [] → b.play.done ≡ None → Sound G c b
   cleared_sound b started laid few copy none empty closed =
       record {
         started = started;
@@ -71,7 +66,7 @@ module _ {D : Type 0} (G : Ghosts D) (c : Content) where
         inside = λ e h. absurd (subst (λ r. Has e r) none h);
         run = subst (λ r. Run (scene_on (stage_of G c b)) (past c r)) (sym none) runs.cleared;
         waits = empty ∙ sym (ap (λ r. waiting_after c (past c r)) none);
-        in_step = subst (λ n. InStep (vec_items b.fired) (play_at n (vec_items b.play))) (sym closed) tt;
+        in_step = subst (λ n. InStep (vec_items b.log.fired) (play_at n (vec_items b.play.entries))) (sym closed) tt;
       }
 
   pub ready : (b : Bench D) → Transitive (G.rule b.delivery) → 1 ≤ G.room b.delivery → Sound G c b → Ready (stage_of G c b) (state_of G b)
@@ -92,11 +87,11 @@ module _ {D : Type 0} (G : Ghosts D) (c : Content) where
         subst (λ m. Run (scene_on (record { chart = c; rule = G.rule b.delivery; room = m; layer = G.layer b.delivery })) (past c r)) (sym same.room)
         (subst (λ q. Run (scene_on (record { chart = c; rule = q; room = G.room a.delivery; layer = G.layer b.delivery })) (past c r)) (sym same.rule) run)
 
-    copy : vec_items b.layout.places ≡ copied c
+    copy : vec_items b.log.layout.places ≡ copied c
     copy = ap (λ l. vec_items l.places) same.layout ∙ s.copy
 
     -- nothing was fired
-    pub stays : vec_items b.fired ≡ vec_items a.fired → G.waiting b.delivery ≡ G.waiting a.delivery → InStep (vec_items b.fired) (play_at b.next (vec_items b.play)) → Sound G c b
+    pub stays : vec_items b.log.fired ≡ vec_items a.log.fired → G.waiting b.delivery ≡ G.waiting a.delivery → InStep (vec_items b.log.fired) (play_of b.play) → Sound G c b
     stays r w step =
         record {
           started = started;
@@ -104,7 +99,7 @@ module _ {D : Type 0} (G : Ghosts D) (c : Content) where
           few_messages = s.few_messages;
           copy = copy;
           inside = λ e h. s.inside e (subst (λ q. Has e q) r h);
-          run = subst (λ q. Run (scene_on (stage_of G c b)) (past c q)) (sym r) (moved (vec_items a.fired) s.run);
+          run = subst (λ q. Run (scene_on (stage_of G c b)) (past c q)) (sym r) (moved (vec_items a.log.fired) s.run);
           waits = w ∙ s.waits ∙ sym (ap (λ q. waiting_after c (past c q)) r);
           in_step = step;
         }
@@ -112,16 +107,16 @@ module _ {D : Type 0} (G : Ghosts D) (c : Content) where
     -- an event was fired
     pub goes :
         (e : EventId) → Transitive (G.rule a.delivery) → 1 ≤ G.room a.delivery → MayFireNext (stage_of G c a) (state_of G a) e →
-        vec_items b.fired ≡ vec_items a.fired ++ e ∷ [] → G.waiting b.delivery ≡ waiting_after c (past c (vec_items a.fired ++ e ∷ [])) →
-        InStep (vec_items b.fired) (play_at b.next (vec_items b.play)) → Sound G c b
+        vec_items b.log.fired ≡ vec_items a.log.fired ++ e ∷ [] → G.waiting b.delivery ≡ waiting_after c (past c (vec_items a.log.fired ++ e ∷ [])) →
+        InStep (vec_items b.log.fired) (play_of b.play) → Sound G c b
     goes e passes some may r w step =
         record {
           started = started;
           laid = s.laid;
           few_messages = s.few_messages;
           copy = copy;
-          inside = λ x h. ⊎_elim (s.inside x) (⊎_elim (λ p. subst (λ (y : EventId). y.0 < length c.events) (sym p) may.0) (λ z. absurd z)) (has_cases x (vec_items a.fired) (e ∷ []) (subst (λ q. Has x q) r h));
-          run = subst (λ q. Run (scene_on (stage_of G c b)) (past c q)) (sym r) (moved (vec_items a.fired ++ e ∷ []) (next_run (stage_of G c a) (state_of G a) (ready a passes some s) e may.0 may.1));
+          inside = λ x h. ⊎_elim (s.inside x) (⊎_elim (λ p. subst (λ (y : EventId). y.0 < length c.events) (sym p) may.0) (λ z. absurd z)) (has_cases x (vec_items a.log.fired) (e ∷ []) (subst (λ q. Has x q) r h));
+          run = subst (λ q. Run (scene_on (stage_of G c b)) (past c q)) (sym r) (moved (vec_items a.log.fired ++ e ∷ []) (next_run (stage_of G c a) (state_of G a) (ready a passes some s) e may.0 may.1));
           waits = w ∙ sym (ap (λ q. waiting_after c (past c q)) r);
           in_step = step;
         }
@@ -136,7 +131,7 @@ module _ {D : Type 0} (G : Ghosts D) (c : Content) where
     tried e passes some closed (Ok u) k =
         let t = k.1.1 in
         goes e passes some k.1.0 (ap (λ (q : State). q.fired) t) (ap (λ (q : State). q.waiting) t)
-        (subst (λ q. InStep (vec_items b.fired) q) (sym (ap (λ (q : State). q.play) t ∙ none_from (state_of G a).play closed)) tt)
+        (subst (λ q. InStep (vec_items b.log.fired) q) (sym (ap (λ (q : State). q.play) t ∙ none_from (state_of G a).play closed)) tt)
     tried e passes some closed (Err f) k = unchanged k.1
 
 -- fire, from a firing with no play open
@@ -166,29 +161,3 @@ module _ (g : Stage) (s : State) (e : EventId) (closed : is_some s.play ≡ fals
   pub by_rules : (a : Result (Unit {0}) Refusal) (t : State) → Ready g s → Tried g s e a t → ByRules g s e a
   by_rules (Ok u) t r k = (none_from s.play closed, k.1.0)
   by_rules (Err f) t r k = inr (λ may. unbarred g s e may.0 (unstopped g s r e may.0 may.1) f k.0.0)
-
--- while a play is open, fire and clear come back
-least_of_all : (f : Refusal) → refusal_number f < 18 → ⊥
-least_of_all PlayOpen l = omega arith
-least_of_all (NotInChart x) l = omega arith
-least_of_all (Unfired f InRecord) l = omega arith
-least_of_all (Unfired f (AboveMissing x)) l = omega arith
-least_of_all (Unfired f OutMissing) l = omega arith
-least_of_all (Unfired f (Full y)) l = omega arith
-least_of_all (Unfired f (Held m y)) l = omega arith
-least_of_all RecordNotEmpty l = omega arith
-least_of_all (BadSchedule p) l = omega arith
-least_of_all NoPlay l = omega arith
-least_of_all NoEventLeft l = omega arith
-
-pub first_of_all : (Applies : Refusal → Type 0) → Applies PlayOpen → Least Applies PlayOpen
-first_of_all Applies k = (k, λ f l j. least_of_all f l)
-
-pub clearable : (s : State) → is_some s.play ≡ false → (f : Refusal) → BarsClear s f → ⊥
-clearable s closed PlayOpen k = both_ways (is_some s.play) closed k
-clearable s closed (NotInChart x) k = k
-clearable s closed (Unfired f o) k = k
-clearable s closed RecordNotEmpty k = k
-clearable s closed (BadSchedule p) k = k
-clearable s closed NoPlay k = k
-clearable s closed NoEventLeft k = k

@@ -1,5 +1,5 @@
 -- What holds of a bench from its opening on.
-use Rattle.std.specs.Prelude.{◌≡◌, ℕ, ◌<◌, ◌≤◌, List, map, length, take, Some, None, Ok, Err, vec_items, Option, Result}
+use Rattle.std.specs.Prelude.{◌≡◌, ◌<◌, ◌≤◌, List, map, length, take, Some, None, Ok, Err, vec_items, Option, Result}
 use Rattle.std.specs.declared.alloc.AllocFailed.{AllocFailed}
 use Rattle.chart.specs.Content.{Content}
 use Rattle.chart.specs.declared.numbers.EventId.{EventId}
@@ -13,11 +13,7 @@ use Rattle.bench.specs.declared.schedule.Entry.{Entry}
 use Rattle.bench.specs.declared.stand.Bench.{Bench}
 use Rattle.bench.specs.Layouts.{copied}
 use Rattle.bench.specs.Records.{past}
-use Rattle.bench.specs.States.{Stage, scene_on, Play, State, cleared}
-
-abbrev pub play_at : Option ℕ → List Entry → Option Play
-play_at None es = None
-play_at (Some k) es = Some (record { entries = es; done = k })
+use Rattle.bench.specs.States.{Stage, scene_on, Play, play_of, State, cleared}
 
 -- the record has just those events of an open play that were fired
 abbrev pub InStep : List EventId → Option Play → Type 0
@@ -29,7 +25,7 @@ module _ {D : Type 0} (G : Ghosts D) where
   stage_of c b = record { chart = c; rule = G.rule b.delivery; room = G.room b.delivery; layer = G.layer b.delivery }
 
   abbrev pub state_of : Bench D → State
-  state_of b = record { fired = vec_items b.fired; waiting = G.waiting b.delivery; play = play_at b.next (vec_items b.play) }
+  state_of b = record { fired = vec_items b.log.fired; waiting = G.waiting b.delivery; play = play_of b.play }
 
   -- a bench over the chart c: it has a copy of its numbers, a run of the rules leads from the cleared bench to its record,
   -- and those parcels wait that wait after that run
@@ -37,11 +33,11 @@ module _ {D : Type 0} (G : Ghosts D) where
     pub started : G.started b.delivery
     pub laid : Laid c
     pub few_messages : length c.messages ≤ message_limit
-    pub copy : vec_items b.layout.places ≡ copied c
-    pub inside : (e : EventId) → Has e (vec_items b.fired) → e.0 < length c.events
-    pub run : Run (scene_on (stage_of c b)) (past c (vec_items b.fired))
-    pub waits : G.waiting b.delivery ≡ waiting_after c (past c (vec_items b.fired))
-    pub in_step : InStep (vec_items b.fired) (play_at b.next (vec_items b.play))
+    pub copy : vec_items b.log.layout.places ≡ copied c
+    pub inside : (e : EventId) → Has e (vec_items b.log.fired) → e.0 < length c.events
+    pub run : Run (scene_on (stage_of c b)) (past c (vec_items b.log.fired))
+    pub waits : G.waiting b.delivery ≡ waiting_after c (past c (vec_items b.log.fired))
+    pub in_step : InStep (vec_items b.log.fired) (play_of b.play)
 
   -- a sound bench stays sound
   abbrev pub Keeps : Bench D → Bench D → Type 0
@@ -53,10 +49,15 @@ module _ {D : Type 0} (G : Ghosts D) where
 
   -- the chart's copy, the hold rule, the capacity and the layers are those of another bench
   pub record Same (a b : Bench D) : Type 0 where
-    pub layout : b.layout ≡ a.layout
+    pub layout : b.log.layout ≡ a.log.layout
     pub rule : G.rule b.delivery ≡ G.rule a.delivery
     pub room : G.room b.delivery ≡ G.room a.delivery
     pub layer : G.layer b.delivery ≡ G.layer a.delivery
+
+  -- what holds of every call
+  pub record Remains (a b : Bench D) : Type 0 where
+    pub same : Same a b
+    pub sound : Keeps a b
 
   -- a cleared bench over this chart and this delivery; without memory for it the delivery comes back as it was
   pub record OpenedOver (c : Content) (d : D) (b : Bench D) : Type 0 where

@@ -1,11 +1,12 @@
 -- A bench's own copy of a chart.
-use Rattle.std.specs.Prelude.{ℕ, Bool, false, List, map, ◌==◌}
+use Rattle.std.specs.Prelude.{◌≡◌, ℕ, Bool, false, List, map, vec_items, ◌==◌}
 use Rattle.chart.specs.Charted.{drawn}
 use Rattle.chart.specs.Content.{Happening, message_of, Content}
+use Rattle.order.specs.Scenes.{tag_of}
 use Rattle.chart.specs.declared.charting.asking.Line.{Line}
 use Rattle.chart.specs.declared.pieces.Side.{Side}
 use Rattle.chart.specs.declared.pieces.Side.TheVariants.{Out, In}
-use Rattle.order.specs.Scenes.{tag_of}
+use Rattle.bench.specs.declared.layout.Layout.{Layout}
 use Rattle.bench.specs.declared.layout.Placed.{Placed}
 
 -- an event as it is kept
@@ -15,6 +16,10 @@ placed c h = record { line = drawn c h; tag = tag_of c (message_of h) }
 -- a chart as it is kept
 abbrev pub copied : Content → List Placed
 copied c = map (placed c) c.events
+
+-- what a copy says of its chart, whichever chart it is a copy of
+abbrev pub OnCopy : Layout → (Content → Type 0) → Type 0
+OnCopy l Says = (c : Content) → vec_items l.places ≡ copied c → Says c
 
 abbrev sends_on : ℕ → Side → ℕ → Bool
 sends_on m Out n = n == m

@@ -1,5 +1,9 @@
--- The number of each refusal.
+-- The number of each refusal, and the refusals of a delivery as obstacles.
 use Rattle.std.specs.Prelude.{ℕ}
+use Rattle.delivery.specs.declared.refusal.PutRefusal.{PutRefusal}
+use Rattle.delivery.specs.declared.refusal.PutRefusal.TheVariants as put
+use Rattle.delivery.specs.declared.refusal.TakeRefusal.{TakeRefusal}
+use Rattle.delivery.specs.declared.refusal.TakeRefusal.TheVariants as take
 use Rattle.bench.specs.declared.refusal.Obstacle.{Obstacle}
 use Rattle.bench.specs.declared.refusal.Obstacle.TheVariants.{InRecord, AboveMissing, OutMissing, Full, Held}
 use Rattle.bench.specs.declared.refusal.Refusal.{Refusal}
@@ -20,3 +24,13 @@ refusal_number RecordNotEmpty = 25
 refusal_number (BadSchedule k) = 26
 refusal_number NoPlay = 27
 refusal_number NoEventLeft = 28
+
+-- a refused put and a refused take, as what stands in the way of an event
+abbrev pub obstacle_of_put : PutRefusal → Obstacle
+obstacle_of_put (put.Far l) = Full l
+obstacle_of_put (put.Double l) = Full l
+obstacle_of_put (put.Full l) = Full l
+
+abbrev pub obstacle_of_take : TakeRefusal → Obstacle
+obstacle_of_take (take.Absent l) = OutMissing
+obstacle_of_take (take.Held m l) = Held m l

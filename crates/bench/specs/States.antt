@@ -1,5 +1,5 @@
 -- What a bench is opened over, what can be seen of it, and what a call does to that.
-use Rattle.std.specs.Prelude.{◌≡◌, ℕ, ◌<◌, Bool, List, [], None, Ok, Err, Option, Result}
+use Rattle.std.specs.Prelude.{◌≡◌, ℕ, ◌<◌, Bool, List, [], Some, None, Ok, Err, vec_items, Option, Result}
 use Rattle.chart.specs.Content.{Content}
 use Rattle.chart.specs.declared.numbers.EventId.{EventId}
 use Rattle.delivery.specs.Answers.{Ground}
@@ -9,6 +9,7 @@ use Rattle.order.specs.Order.{Scene}
 use Rattle.order.specs.Scenes.{scene_of}
 use Rattle.bench.specs.declared.refusal.Refusal.{Refusal}
 use Rattle.bench.specs.declared.schedule.Entry.{Entry}
+use Rattle.bench.specs.declared.schedule.Script.{Script}
 use Rattle.bench.specs.Refusals.{refusal_number}
 
 -- a chart over a delivery: its hold rule, its capacity, and the layer that a refusal names
@@ -25,6 +26,13 @@ scene_on g = scene_of g.chart g.rule g.room
 pub record Play : Type 0 where
   pub entries : List Entry
   pub done : ℕ
+
+abbrev pub play_at : Option ℕ → List Entry → Option Play
+play_at None es = None
+play_at (Some k) es = Some (record { entries = es; done = k })
+
+abbrev pub play_of : Script → Option Play
+play_of s = play_at s.done (vec_items s.entries)
 
 -- the record, the waiting parcels, and the play, if one is open
 pub record State : Type 0 where

@@ -22,9 +22,9 @@ abbrev pub LeastObstacle : Stage → State → EventId → Happening → Obstacl
 LeastObstacle g s e h o = Stops g s e h o × ((q : Obstacle) → obstacle_number q < obstacle_number o → Stops g s e h q → ⊥)
 
 -- what the record says against an event: the obstacles below 23 are all of those that it can tell
-abbrev pub Against : Stage → State → EventId → Happening → Option Obstacle → Type 0
-Against g s e h None = (q : Obstacle) → obstacle_number q < 23 → Stops g s e h q → ⊥
-Against g s e h (Some o) = LeastObstacle g s e h o
+abbrev pub Against : Stage → State → EventId → Happening → Result (Unit {0}) Obstacle → Type 0
+Against g s e h (Ok u) = (q : Obstacle) → obstacle_number q < 23 → Stops g s e h q → ⊥
+Against g s e h (Err o) = LeastObstacle g s e h o
 
 module _ (rule : Tag → Tag → Bool) (room : ℕ) (layer : Ground → Option ℕ) (w : List Parcel) where
   -- a parcel is put: refused as full, if the delivery can carry it at all

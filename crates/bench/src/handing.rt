@@ -7,31 +7,22 @@ use chart::numbers::MessageId;
 use chart::pieces::Side;
 use delivery::meaning::Delivery;
 use delivery::parcel::Parcel;
-use delivery::refusal::{PutRefusal, TakeRefusal};
 
-// A bench never puts a message that is far or waits already; a delivery that says so has no room for it either.
+// `Serves` is said by each of these: it tells what a delivery is after beside what it was before, so no type can hold it.
 fn send_off<D: Delivery>(delivery: &mut D, parcel: Parcel) -> Result<(), Obstacle>
     ensures serves { Serves D.Delivery delivery.old delivery.new }
     ensures sends { SendsOff D.Delivery delivery.old parcel result delivery.new }
 {
-    match delivery.put(parcel) {
-        Ok(_accepted) => Ok(()),
-        Err(PutRefusal::Far { layer }) => Err(Obstacle::Full { layer }),
-        Err(PutRefusal::Double { layer }) => Err(Obstacle::Full { layer }),
-        Err(PutRefusal::Full { layer }) => Err(Obstacle::Full { layer }),
-    }
+    delivery.put(parcel)?;
+    Ok(())
 }
 
-// A bench only takes a message that waits.
 fn take_in<D: Delivery>(delivery: &mut D, message: MessageId) -> Result<(), Obstacle>
     ensures serves { Serves D.Delivery delivery.old delivery.new }
     ensures takes { TakesIn D.Delivery delivery.old message.0 result delivery.new }
 {
-    match delivery.take(message) {
-        Ok(_) => Ok(()),
-        Err(TakeRefusal::Absent { .. }) => Err(Obstacle::OutMissing),
-        Err(TakeRefusal::Held { by, layer }) => Err(Obstacle::Held { holder: by, layer }),
-    }
+    delivery.take(message)?;
+    Ok(())
 }
 
 // What an event does to the delivery.

@@ -3,6 +3,7 @@
 
 mod handing;
 mod layout;
+mod record;
 pub mod refusal;
 pub mod schedule;
 pub mod stand;

@@ -1,8 +1,9 @@
 // Why a call on a bench comes back. Where several refusals apply, the one with the smallest number is told.
 ghost use Rattle.std.specs.Prelude.{◌≡◌};
-ghost use Rattle.bench.specs.Refusals.{obstacle_number, refusal_number};
+ghost use Rattle.bench.specs.Refusals.{obstacle_number, refusal_number, obstacle_of_put, obstacle_of_take};
 
 use chart::numbers::{EventId, InstanceId, MessageId};
+use delivery::refusal::{PutRefusal, TakeRefusal};
 
 // An event that was to be fired.
 #[derive(Clone, Copy, PartialEq, Eq, Debug)]
@@ -37,7 +38,32 @@ pub enum Refusal {
     NoEventLeft,
 }
 
+// A bench never puts a message that is far or waits already; a delivery that says so has no room for it either.
+impl From<PutRefusal> for Obstacle {
+    ghost from_gives = { λ refusal obstacle. obstacle ≡ obstacle_of_put refusal };
+
+    fn from(refusal: PutRefusal) -> Obstacle {
+        match refusal {
+            PutRefusal::Far { layer } | PutRefusal::Double { layer } | PutRefusal::Full { layer } =>
+                { Obstacle::Full { layer } }
+        }
+    }
+}
+
+// A bench only takes a message that waits.
+impl From<TakeRefusal> for Obstacle {
+    ghost from_gives = { λ refusal obstacle. obstacle ≡ obstacle_of_take refusal };
+
+    fn from(refusal: TakeRefusal) -> Obstacle {
+        match refusal {
+            TakeRefusal::Absent { .. } => Obstacle::OutMissing,
+            TakeRefusal::Held { by, layer } => Obstacle::Held { holder: by, layer },
+        }
+    }
+}
+
 impl Obstacle {
+    // By hand here and below: the project gives each refusal its number.
     pub fn number(self) -> u8
         ensures { result ≡ obstacle_number self }
     {

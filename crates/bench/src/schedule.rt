@@ -1,12 +1,14 @@
 // Schedules: an order in which a chart's events are to be fired, as bytes.
-ghost use Rattle.std.specs.Prelude.{◌≡◌, ◌*◌, ◌≤◌, length, vec_len, vec_capacity, MatchOption, ◌==◌};
-ghost use Rattle.chart.specs.Content.{Content};
-ghost use Rattle.bench.specs.Layouts.{copied};
-ghost use Rattle.bench.specs.Schedules.{same_event, decoded, fits, Walked, Read};
+ghost use Rattle.std.specs.Prelude.{◌≡◌, ◌≤◌, length, map, slice_get, is_some, true, false, None, IfOk, MatchResult, vec_len, vec_capacity};
+ghost use Rattle.bench.specs.Layouts.{OnCopy};
+ghost use Rattle.bench.specs.Schedules.{same_event, entry_of, Cut, Walked, Read};
+ghost use Rattle.bench.specs.declared.refusal.Refusal.TheVariants.{PlayOpen};
 
 use crate::layout::Layout;
+use crate::refusal::Refusal;
 use chart::numbers::{EventId, MessageId};
 use chart::repeats::{Same, first_repeat};
+use std::alloc::{AllocError, Global};
 
 // Bytes of one record.
 const ENTRY_LEN: usize = 2;
@@ -18,6 +20,17 @@ pub struct Entry {
     pub message: MessageId,
 }
 
+impl From<[u8; ENTRY_LEN]> for Entry {
+    ghost from_gives = { λ bytes entry. entry ≡ entry_of bytes };
+
+    fn from([event, message]: [u8; ENTRY_LEN]) -> Entry {
+        Entry {
+            event: EventId(u16::from(event)),
+            message: MessageId(u16::from(message)),
+        }
+    }
+}
+
 // Two records are told apart by their events.
 impl Same for Entry {
     ghost same = { same_event };
@@ -27,55 +40,79 @@ impl Same for Entry {
     }
 }
 
-// Whether the bytes are so many records.
-pub(crate) fn has_records(schedule: &[u8], count: usize) -> bool
-    ensures { result ≡ (length schedule.now == 2 * count) }
+// The records of a schedule, if there are so many of them and nothing more.
+pub(crate) fn records_of(schedule: &[u8], count: usize) -> Option<&[[u8; ENTRY_LEN]]>
+    ensures { Cut schedule.now count result }
 {
-    schedule.len() % ENTRY_LEN == 0 && schedule.len() / ENTRY_LEN == count
+    let (records, rest) = schedule.as_chunks();
+    (rest.is_empty() && records.len() == count).then_some(records)
 }
 
-// Whether a record names an event of the chart, with its message.
-fn is_fit(layout: &Layout, entry: Entry) -> bool
-    ensures { (c : Content) → layout.now.places.items ≡ copied c → result ≡ fits c entry }
-{
-    match layout.at(entry.event) {
-        Some(place) => place.line.message == entry.message,
-        None => false,
+// What a play goes by: a schedule, and how many of its events were fired. It keeps its memory while no play is open, so that
+// none has to ask for some.
+#[derive(Drop)]
+pub(crate) struct Script {
+    pub entries: Vec<Entry>,
+    // none while no play is open
+    pub done: Option<usize>,
+}
+
+impl Script {
+    pub(crate) fn with_room(heap: Global, count: usize) -> Result<Script, AllocError>
+        ensures room { IfOk result (λ s. vec_capacity s.entries ≡ count) }
+        ensures closed { IfOk result (λ s. s.done ≡ None) }
+    {
+        Ok(Script {
+            entries: Vec::with_capacity(heap, count)?,
+            done: None,
+        })
     }
-}
 
-// Copies the records up to the first that is not fit, which is named.
-fn walk(layout: &Layout, schedule: &[u8], entries: &mut Vec<Entry>) -> Option<usize>
-    requires long { length schedule.now ≡ 2 * vec_len layout.now.places }
-    requires empty { vec_len entries.old ≡ 0 }
-    requires room { vec_len layout.now.places ≤ vec_capacity entries.old }
-    ensures room { vec_capacity entries.new ≡ vec_capacity entries.old }
-    ensures walks { (c : Content) → layout.now.places.items ≡ copied c → Walked c (decoded schedule.now) result entries.new.items }
-{
-    for k in 0..layout.places.len() {
-        let entry = Entry {
-            event: EventId(schedule[ENTRY_LEN * k] as u16),
-            message: MessageId(schedule[ENTRY_LEN * k + 1] as u16),
-        };
-        if !is_fit(layout, entry) {
-            return Some(k);
+    // Some calls are refused while a play is open.
+    pub(crate) fn must_be_closed(&self) -> Result<(), Refusal>
+        ensures { MatchResult result (λ done. is_some self.now.done ≡ false) (λ refusal. (is_some self.now.done ≡ true) × (refusal ≡ PlayOpen)) }
+    {
+        if self.done.is_some() {
+            return Err(Refusal::PlayOpen);
         }
-        entries.push_reserved(entry);
+        Ok(())
     }
-    None
-}
 
-// Copies a schedule of the right length, and names its first bad record.
-pub(crate) fn read(layout: &Layout, schedule: &[u8], entries: &mut Vec<Entry>) -> Option<usize>
-    requires long { length schedule.now ≡ 2 * vec_len layout.now.places }
-    requires room { vec_len layout.now.places ≤ vec_capacity entries.old }
-    ensures room { vec_capacity entries.new ≡ vec_capacity entries.old }
-    ensures reads { (c : Content) → layout.now.places.items ≡ copied c → Read c (decoded schedule.now) result entries.new.items }
-{
-    entries.clear();
-    let unfit = walk(layout, schedule, entries);
-    match first_repeat(entries) {
-        Some(repeat) => Some(repeat),
-        None => unfit,
+    // The record at a place, if the schedule has one there.
+    pub(crate) fn entry(&self, place: usize) -> Option<Entry>
+        ensures { result ≡ slice_get self.now.entries.items place }
+    {
+        self.entries.get(place).copied()
+    }
+
+    // Copies the records up to the first that does not name an event of the chart with its message; that one is named.
+    fn walk(&mut self, layout: &Layout, records: &[[u8; ENTRY_LEN]]) -> Option<usize>
+        requires empty { vec_len self.old.entries ≡ 0 }
+        requires room { length records.now ≤ vec_capacity self.old.entries }
+        ensures room { vec_capacity self.new.entries ≡ vec_capacity self.old.entries }
+        ensures done { self.new.done ≡ self.old.done }
+        ensures walks { OnCopy layout.now (λ c. Walked c (map entry_of records.now) result self.new.entries.items) }
+    {
+        // The format asks for it: records one by one, each with its number, up to the first bad one.
+        for (place, record) in records.iter().enumerate() {
+            let entry = Entry::from(*record);
+            if !layout.belongs_to(entry.event, entry.message) {
+                return Some(place);
+            }
+            self.entries.push_reserved(entry);
+        }
+        None
+    }
+
+    // Copies a schedule, and names its first bad record.
+    pub(crate) fn load(&mut self, layout: &Layout, records: &[[u8; ENTRY_LEN]]) -> Option<usize>
+        requires { length records.now ≤ vec_capacity self.old.entries }
+        ensures room { vec_capacity self.new.entries ≡ vec_capacity self.old.entries }
+        ensures done { self.new.done ≡ self.old.done }
+        ensures reads { OnCopy layout.now (λ c. Read c (map entry_of records.now) result self.new.entries.items) }
+    {
+        self.entries.clear();
+        let unfit = self.walk(layout, records);
+        first_repeat(&self.entries).or(unfit)
     }
 }

@@ -8,11 +8,11 @@ use layers::group::Group;
 use layers::relay::Relay;
 use std::process::Abort;
 use std::test::Fail;
-use wirings::bottoms::{new_bag, new_meeting, new_paired_line};
+use wirings::bottoms::{Bag, Meeting, PairedLine};
 
 #[test]
 fn a_fresh_bench_says_what_is_missing(rt: HostRuntime) -> Result<(), Fail> {
-    let bench = bench_over(&rt, STEP, new_bag(rt.alloc())?)?;
+    let bench = bench_over(&rt, STEP, Bag::new(rt.alloc())?)?;
     let first = Obstacle::AboveMissing { first: EventId(1) };
     fires_to(
         &rt,
@@ -29,7 +29,7 @@ fn a_fresh_bench_says_what_is_missing(rt: HostRuntime) -> Result<(), Fail> {
 
 #[test]
 fn an_event_is_fired_once(rt: HostRuntime) -> Result<(), Fail> {
-    let bench = bench_over(&rt, STEP, new_bag(rt.alloc())?)?;
+    let bench = bench_over(&rt, STEP, Bag::new(rt.alloc())?)?;
     fires_to(
         &rt,
         bench,
@@ -46,9 +46,8 @@ fn an_event_is_fired_once(rt: HostRuntime) -> Result<(), Fail> {
 
 #[test]
 fn a_full_delivery_is_named_by_its_layer(rt: HostRuntime) -> Result<(), Fail> {
-    let Ok(relay) = Relay::new(new_meeting(rt.alloc())?, Group::NONE, 16) else {
-        return Err(Fail::new("no relay"));
-    };
+    let made = Relay::new(Meeting::one_at_a_time(rt.alloc())?, Group::NONE, 16);
+    let relay = made.map_err(|_| Fail::new("no relay"))?;
     let bench = bench_over(&rt, TWIN, relay)?;
     fires_to(
         &rt,
@@ -66,7 +65,7 @@ fn a_full_delivery_is_named_by_its_layer(rt: HostRuntime) -> Result<(), Fail> {
 
 #[test]
 fn a_held_message_names_its_holder(rt: HostRuntime) -> Result<(), Fail> {
-    let bench = bench_over(&rt, TWIN, new_paired_line(rt.alloc())?)?;
+    let bench = bench_over(&rt, TWIN, PairedLine::new(rt.alloc())?)?;
     let held = Obstacle::Held {
         holder: MessageId(0),
         layer: 0,
@@ -96,7 +95,7 @@ fn starts_anew<D: Delivery>(rt: &impl Abort, bench: &mut Bench<D>) -> Result<(),
 
 #[test]
 fn a_cleared_bench_starts_anew(rt: HostRuntime) -> Result<(), Fail> {
-    let mut bench = bench_over(&rt, TWIN, new_bag(rt.alloc())?)?;
+    let mut bench = bench_over(&rt, TWIN, Bag::new(rt.alloc())?)?;
     starts_anew(&rt, &mut bench)?;
     assert_eq!(rt; bench.into_delivery().count(), 1);
     Ok(())

@@ -1,4 +1,5 @@
-// Charts to work by, and benches over them.
+// Charts to work by, and benches over them. The texts stand beside the tests that count their events, though other crates draw
+// two of these charts too.
 use bench::refusal::{Firing, Obstacle, Refusal};
 use bench::stand::Bench;
 use bench::stand::playing::Slip;
@@ -26,13 +27,8 @@ pub(crate) fn bench_over<D: Delivery + Drop>(
     delivery: D,
 ) -> Result<Bench<D>, Fail> {
     let mut chart = Chart::blank(rt.alloc());
-    if read(&mut chart, text).is_err() {
-        return Err(Fail::new("the chart is not read"));
-    }
-    match Bench::open(rt.alloc(), &chart, delivery) {
-        Ok(bench) => Ok(bench),
-        Err(_) => Err(Fail::new("no memory for a bench")),
-    }
+    read(&mut chart, text).map_err(|_| Fail::new("the chart is not read"))?;
+    Bench::open(rt.alloc(), &chart, delivery).map_err(|_| Fail::new("no memory for a bench"))
 }
 
 // A firing, and the answer that it must get.
@@ -74,12 +70,7 @@ fn all_answered<D: Delivery>(
     slip: &Slip,
     wanted: &[Result<(), Refusal>],
 ) -> bool {
-    for answer in wanted {
-        if bench.advance(slip) != *answer {
-            return false;
-        }
-    }
-    true
+    wanted.iter().all(|answer| bench.advance(slip) == *answer)
 }
 
 // Plays a schedule: so many advances with these answers, then the close with that count.
@@ -102,21 +93,14 @@ pub(crate) fn plays<D: Delivery>(
 
 // Begins a play that must begin.
 pub(crate) fn begun<D: Delivery>(bench: &mut Bench<D>, schedule: &[u8]) -> Result<Slip, Fail> {
-    match bench.begin(schedule) {
-        Ok(slip) => Ok(slip),
-        Err(_) => Err(Fail::new("the play does not begin")),
-    }
+    bench
+        .begin(schedule)
+        .map_err(|_| Fail::new("the play does not begin"))
 }
 
 // Why a play does not begin; one that does is closed again.
 pub(crate) fn why_not<D: Delivery>(bench: &mut Bench<D>, schedule: &[u8]) -> Option<Refusal> {
-    match bench.begin(schedule) {
-        Ok(slip) => {
-            let _ = bench.close(slip);
-            None
-        }
-        Err(refusal) => Some(refusal),
-    }
+    bench.begin(schedule).map(|slip| bench.close(slip)).err()
 }
 
 // The refusal of an event, of which instance and message are given.
@@ -132,14 +116,9 @@ pub(crate) fn unfired(event: u16, instance: u16, message: u16, obstacle: Obstacl
 }
 
 pub(crate) fn fired_is<D>(bench: &Bench<D>, numbers: &[u16]) -> bool {
-    let fired = bench.fired();
-    if fired.len() != numbers.len() {
-        return false;
-    }
-    for (event, number) in fired.iter().zip(numbers.iter()) {
-        if event.0 != *number {
-            return false;
-        }
-    }
-    true
+    bench
+        .fired()
+        .iter()
+        .map(|event| event.0)
+        .eq(numbers.iter().copied())
 }

@@ -6,7 +6,7 @@ use chart::numbers::{EventId, MessageId};
 use delivery::meaning::Delivery;
 use std::process::Abort;
 use std::test::Fail;
-use wirings::bottoms::{new_bag, new_paired_line};
+use wirings::bottoms::{Bag, PairedLine};
 
 const DRAWN: &[u8] = &[0, 0, 1, 1, 2, 0, 3, 1];
 
@@ -25,7 +25,7 @@ fn two_plays<D: Delivery>(rt: &impl Abort, bench: &mut Bench<D>) -> Result<(), F
 
 #[test]
 fn a_play_is_closed_half_way_and_another_begun(rt: HostRuntime) -> Result<(), Fail> {
-    two_plays(&rt, &mut bench_over(&rt, TWIN, new_bag(rt.alloc())?)?)
+    two_plays(&rt, &mut bench_over(&rt, TWIN, Bag::new(rt.alloc())?)?)
 }
 
 fn keeps_out<D: Delivery>(rt: &impl Abort, bench: &mut Bench<D>) -> Result<(), Fail> {
@@ -43,7 +43,7 @@ fn keeps_out<D: Delivery>(rt: &impl Abort, bench: &mut Bench<D>) -> Result<(), F
 
 #[test]
 fn an_open_play_keeps_others_out(rt: HostRuntime) -> Result<(), Fail> {
-    keeps_out(&rt, &mut bench_over(&rt, TWIN, new_bag(rt.alloc())?)?)
+    keeps_out(&rt, &mut bench_over(&rt, TWIN, Bag::new(rt.alloc())?)?)
 }
 
 fn stays<D: Delivery>(rt: &impl Abort, bench: &mut Bench<D>) -> Result<(), Fail> {
@@ -61,7 +61,7 @@ fn stays<D: Delivery>(rt: &impl Abort, bench: &mut Bench<D>) -> Result<(), Fail>
 fn a_refused_event_stays_the_next(rt: HostRuntime) -> Result<(), Fail> {
     stays(
         &rt,
-        &mut bench_over(&rt, TWIN, new_paired_line(rt.alloc())?)?,
+        &mut bench_over(&rt, TWIN, PairedLine::new(rt.alloc())?)?,
     )
 }
 
@@ -92,7 +92,7 @@ fn all_bad<D: Delivery>(rt: &impl Abort, bench: &mut Bench<D>) {
 
 #[test]
 fn bad_schedules_name_their_first_bad_record(rt: HostRuntime) -> Result<(), Fail> {
-    all_bad(&rt, &mut bench_over(&rt, TWIN, new_bag(rt.alloc())?)?);
+    all_bad(&rt, &mut bench_over(&rt, TWIN, Bag::new(rt.alloc())?)?);
     Ok(())
 }
 
@@ -103,12 +103,9 @@ fn exchange<D: Delivery, E: Delivery>(
 ) -> Result<(), Fail> {
     let first = begun(one, DRAWN)?;
     let nothing = other.advance(&first);
-    let second = match other.begin(DRAWN) {
-        Ok(slip) => slip,
-        Err(_) => {
-            let _ = one.close(first);
-            return Err(Fail::new("the second play does not begin"));
-        }
+    let Ok(second) = other.begin(DRAWN) else {
+        let _ = one.close(first);
+        return Err(Fail::new("the second play does not begin"));
     };
     let crossed = one.advance(&second);
     let back = other.advance(&first);
@@ -124,11 +121,11 @@ fn exchange<D: Delivery, E: Delivery>(
 
 #[test]
 fn slips_serve_at_any_bench(rt: HostRuntime) -> Result<(), Fail> {
-    let mut one = bench_over(&rt, TWIN, new_bag(rt.alloc())?)?;
+    let mut one = bench_over(&rt, TWIN, Bag::new(rt.alloc())?)?;
     exchange(
         &rt,
         &mut one,
-        &mut bench_over(&rt, TWIN, new_paired_line(rt.alloc())?)?,
+        &mut bench_over(&rt, TWIN, PairedLine::new(rt.alloc())?)?,
     )
 }
 
@@ -140,5 +137,5 @@ fn plays_nothing<D: Delivery>(rt: &impl Abort, bench: &mut Bench<D>) -> Result<(
 
 #[test]
 fn an_empty_chart_has_an_empty_play(rt: HostRuntime) -> Result<(), Fail> {
-    plays_nothing(&rt, &mut bench_over(&rt, EMPTY, new_bag(rt.alloc())?)?)
+    plays_nothing(&rt, &mut bench_over(&rt, EMPTY, Bag::new(rt.alloc())?)?)
 }

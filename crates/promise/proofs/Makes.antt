@@ -1,5 +1,5 @@
 -- Calls that are known by their kind, and calls after calls.
-use Rattle.std.proofs.Common.{◌≡◌, ℕ, ◌+◌, ◌≤◌, List, [], ◌∷◌, ◌++◌, Ok, Err, Result, ◌∙◌, subst, arith}
+use Rattle.std.proofs.Common.{◌≡◌, ℕ, ◌+◌, ◌≤◌, List, [], ◌∷◌, ◌++◌, Ok, Err, Result, refl, ◌∙◌, arith}
 use Rattle.chart.specs.declared.numbers.EventId.{EventId}
 use Rattle.chart.specs.Content.{Content}
 use Rattle.delivery.specs.declared.meaning.Delivery.{Ghosts}
@@ -9,11 +9,13 @@ use Rattle.bench.specs.Plays.{Begun}
 use Rattle.bench.specs.States.{Stage, State}
 use Rattle.bench.specs.declared.refusal.Refusal.{Refusal}
 use Rattle.bench.specs.declared.stand.Bench.{Bench}
+use Rattle.promise.specs.Clients.{Onward}
 use Rattle.promise.specs.Sessions.{slips_after, Made, fire, clear, begin, Session, next}
 use Rattle.promise.specs.declared.calls.Call.{Call}
 use Rattle.promise.specs.declared.calls.Call.TheVariants as call
 use Rattle.promise.specs.declared.calls.Answer.{Answer}
 use Rattle.promise.specs.declared.calls.Answer.TheVariants as answer
+use Rattle.promise.specs.declared.performing.Client.{Client}
 
 module _ {g : Stage} {s t : State} {k : ℕ} {x : Call} where
   pub as_fire : {e : EventId} {r : Result (Unit {0}) Refusal} → x ≡ call.Fire e → Fired g s e r t → Made g s k x (answer.Fired r) t k
@@ -44,9 +46,19 @@ module _ {D : Type 0} (G : Ghosts D) (c : Content) (a b : Bench D) where
       more ≡ calls ++ x ∷ [] → after ≡ answers ++ y ∷ [] → Session (stage_of G c a) s k more after u m
   one_more e h made p q = rw (p, q) (next h (rw (same_stage G c a b e) at made))
 
--- the rules stay from call to call
-pub same_on : {D : Type 0} (G : Ghosts D) (a b d : Bench D) → Same G a b → Same G b d → Same G a d
-same_on G a b d p q = record { layout = q.layout ∙ p.layout; rule = q.rule ∙ p.rule; room = q.room ∙ p.room; layer = q.layer ∙ p.layer }
+-- what stays, stays from call to call
+module _ {D : Type 0} (G : Ghosts D) where
+  pub onward_all : (a : Client D) → Onward G a a
+  onward_all a = record { remains = record { same = record { layout = refl; rule = refl; room = refl; layer = refl }; sound = λ d s. s }; room = refl }
 
-pub over : {g : Stage} {s t : State} {k l : ℕ} {calls all : List Call} {answers : List Answer} → calls ≡ all → Session g s k calls answers t l → Session g s k all answers t l
-over {g} {s} {t} {k} {l} {calls} {all} {answers} e h = subst (λ (cs : List Call). Session g s k cs answers t l) e h
+  pub onward_more : (a b d : Client D) → Onward G a b → Onward G b d → Onward G a d
+  onward_more a b d p q =
+      let x = p.remains.same in
+      let y = q.remains.same in
+      record {
+        remains = record {
+          same = record { layout = y.layout ∙ x.layout; rule = y.rule ∙ x.rule; room = y.room ∙ x.room; layer = y.layer ∙ x.layer };
+          sound = λ c s. q.remains.sound c (p.remains.sound c s);
+        };
+        room = q.room ∙ p.room;
+      }

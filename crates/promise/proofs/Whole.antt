@@ -62,7 +62,7 @@ module _ {D : Type 0} (G : Ghosts D) (chart : Chart) (d : D) (transitive : Trans
         scheduled_kept (content chart) (G.rule d) (G.room d) all a b old answer new
         (moved (λ r n. Schedules (content chart) r n a b old answer new) (rule_is x e) (room_is x e) h)
 
-    pub recorded_of : Sound G (content chart) bench → Recorded (content chart) (G.rule d) (G.room d) (vec_items bench.fired)
+    pub recorded_of : Sound G (content chart) bench → Recorded (content chart) (G.rule d) (G.room d) (vec_items bench.log.fired)
     recorded_of s =
-        recorded_kept (content chart) (G.rule d) (G.room d) all (vec_items bench.fired)
-        (moved (λ r n. Run (scene_of (content chart) r n) (past (content chart) (vec_items bench.fired))) (rule_is bench.delivery refl) (room_is bench.delivery refl) s.run)
+        recorded_kept (content chart) (G.rule d) (G.room d) all (vec_items bench.log.fired)
+        (moved (λ r n. Run (scene_of (content chart) r n) (past (content chart) (vec_items bench.log.fired))) (rule_is bench.delivery refl) (room_is bench.delivery refl) s.run)

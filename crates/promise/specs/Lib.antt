@@ -1,3 +1,4 @@
 pub mod Sessions
+pub mod Clients
 pub mod Promise
 pub mod Rehearsed

@@ -22,7 +22,7 @@ module _ {D : Type 0} (G : Ghosts D) (c : Content) (d : D) where
     pub session : Session stage cleared k calls (vec_items x.answers) (state_of G x.bench) (vec_len x.slips)
     pub reported : Reported c (G.rule d) (G.room d) report_old x.report report_new
     pub scheduled : Scheduled c (G.rule d) (G.room d) a b schedule_old x.schedule schedule_new
-    pub recorded : Recorded c (G.rule d) (G.room d) (vec_items x.bench.fired)
+    pub recorded : Recorded c (G.rule d) (G.room d) (state_of G x.bench).fired
 
   -- without memory for the bench and the answers all comes back as it was
   abbrev pub Rehearsed : List Slip → List Call → ℕ → ℕ → List ℕ → List ℕ → Result (Rehearsal D) (Unopened D) → List ℕ → List ℕ → Type 0

@@ -11,16 +11,16 @@ use delivery::meaning::Delivery;
 impl<D> Bench<D> {
     // The record: the events that were fired since the opening or the last clear, in order.
     pub fn fired(&self) -> &[EventId]
-        ensures { result.now ≡ self.now.fired.items }
+        ensures { result.now ≡ self.now.log.fired.items }
     {
-        &self.fired
+        &self.log.fired
     }
 
     // How many events of the play were fired; none while no play is open.
     pub fn progress(&self) -> Option<usize>
-        ensures { result ≡ self.now.next }
+        ensures { result ≡ self.now.play.done }
     {
-        self.next
+        self.play.done
     }
 
     pub fn delivery(&self) -> &D
@@ -32,14 +32,7 @@ impl<D> Bench<D> {
     pub fn into_delivery(self) -> D
         ensures { result ≡ self.delivery }
     {
-        let Bench {
-            delivery,
-            layout: _,
-            fired: _,
-            play: _,
-            next: _,
-        } = self;
-        delivery
+        self.delivery
     }
 }
 
@@ -54,16 +47,13 @@ impl<D: Delivery> Bench<D> {
     pub fn event_count(&self) -> usize
         ensures { OnSound D.Delivery self.now self.now (λ g s t. result ≡ length g.chart.events) }
     {
-        self.layout.places.len()
+        self.log.layout.places.len()
     }
 
     // The instance, side and message of an event, if the chart has it.
     pub fn line(&self, event: EventId) -> Option<Line>
         ensures { OnSound D.Delivery self.now self.now (λ g s t. result ≡ line_of g.chart event.0) }
     {
-        match self.layout.at(event) {
-            Some(place) => Some(place.line),
-            None => None,
-        }
+        self.log.layout.at(event).map(|place| place.line)
     }
 }

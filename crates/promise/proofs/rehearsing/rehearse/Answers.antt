@@ -3,8 +3,8 @@ use Rattle.chart.specs.Charted.{content}
 use Rattle.promise.proofs.Whole.{session_of, stage_of_lem, reported_of, scheduled_of, recorded_of}
 use Rattle.promise.proofs.rehearsing.rehearse.Goals as goal
 
-pub returns-in-Ok-open : goal.returns-in-Ok-open
-returns-in-Ok-open g c =
+pub returns : goal.returns
+returns g c =
     let m = g.D.Delivery in
     let chart = c.args.chart.now in
     let d = c.args.delivery in
@@ -12,10 +12,10 @@ returns-in-Ok-open g c =
     let some = g.met.D.Delivery.some d in
     let o = c.in-Ok-open.ensures in
     let p = c.perform.ensures in
-    let sound = p.sound (content chart) o.sound in
+    let sound = p.onward.remains.sound (content chart) o.sound in
     record {
-      session = session_of (stage_of_lem m chart d transitive some _ o) o.state (c.reserve.ensures.len ∙ c.args.slips.ok.0) (p.session (content chart) o.sound);
-      reported = reported_of m chart d transitive some _ _ o p.same _ c.delivery.ensures _ _ _ c.report-report.ensures.answer c.report-report.ensures.bytes;
-      scheduled = scheduled_of m chart d transitive some _ _ o p.same _ c.delivery-in-Ok-open.ensures _ _ _ _ _ c.schedule-schedule.ensures;
-      recorded = recorded_of m chart d transitive some _ _ o p.same sound;
+      session = session_of (stage_of_lem m chart d transitive some _ o) o.state (c.reserve.ensures.len ∙ c.args.slips.ok.0) (p.performs (content chart) o.sound);
+      reported = reported_of m chart d transitive some _ _ o p.onward.remains.same _ c.delivery.ensures _ _ _ c.report-report.ensures.answer c.report-report.ensures.bytes;
+      scheduled = scheduled_of m chart d transitive some _ _ o p.onward.remains.same _ c.delivery-2.ensures _ _ _ _ _ c.schedule-schedule.ensures;
+      recorded = recorded_of m chart d transitive some _ _ o p.onward.remains.same sound;
     }

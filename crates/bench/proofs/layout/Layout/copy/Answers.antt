@@ -1,38 +1,32 @@
-use Rattle.std.proofs.Common.{◌≡◌, ◌<◌, ◌≤◌, [], ◌∷◌, ◌++◌, map, length, take, vec_items, vec_len, sym, ap, ◌∙◌, arith}
-use Rattle.std.proofs.lemmas.List.{length-map, map_more, take_all}
+use Rattle.std.proofs.Common.{◌≡◌, ℕ, map, length, Ok, vec_items, sym, ap, ◌∙◌, arith, rules}
+use Rattle.std.proofs.lemmas.Iterator.{YieldsList-from_map, YieldsList-from_range, items_from_collect, serves_from_Range}
+use Rattle.std.specs.declared.alloc.AllocError.{AllocError}
+use Rattle.std.specs.List.{range_with_len}
+use Rattle.std.specs.declared.ops.Range.{Range}
+use Rattle.std.proofs.lemmas.List.{get_or-map, length-map}
+use Rattle.std.proofs.lemmas.List.FromFn.{fill_by_all}
 use Rattle.chart.specs.Charted.{content}
 use Rattle.chart.specs.Content.{sent}
 use Rattle.chart.specs.Shown.{happening}
-use Rattle.bench.specs.Layouts.{placed}
-use Rattle.bench.specs.declared.layout.Placed.{Placed}
+use Rattle.order.specs.Scenes.{event_at}
+use Rattle.bench.specs.Layouts.{placed, copied}
 use Rattle.bench.proofs.layout.Layout.copy.Goals as goal
 
-pub loop-i-init : goal.loop-i-init
-loop-i-init c =
-    let made = c.in_ok-places.ensures in
-    let chart = c.args.chart.now in
-    let count = ap length c.events-count.ensures in
-    let few : vec_len chart.parts.events ≤ 128 = chart.few_events in
-    let long : vec_len chart.parts.events ≡ length (vec_items chart.parts.events) = chart.parts.events.ok.0 in
-    (made.items, made.len, made.capacity, count ∙ sym (length-map (vec_items chart.parts.events) happening), omega arith)
-
-pub loop-i-preserved : goal.loop-i-preserved
-loop-i-preserved c =
-    let says = content c.args.chart.now in
-    let inv = c.loop-i.invariant in
-    let low : c.loop-i.i < length says.events = omega (arith, inv.3) in (
-      c.push_reserved.ensures.items ∙ ap (λ v. v ++ c.place_of.result ∷ []) inv.0
-          ∙ ap (λ (p : Placed). map (placed says) (take c.loop-i.i says.events) ++ p ∷ []) c.place_of.ensures
-          ∙ sym (map_more (placed says) says.events c.loop-i.i (sent 0) low),
-      omega (arith, c.push_reserved.ensures.len, inv.1),
-      omega (arith, c.push_reserved.ensures.capacity, inv.2),
-      inv.3,
-      inv.4,
-    )
+pub collect-requires-clause-can : goal.collect-requires-clause-can
+collect-requires-clause-can c =
+    let count = ap length c.events.ensures ∙ sym (length-map (vec_items c.args.chart.now.parts.events) happening) in
+    let end = ap (λ (r : Range ℕ). r.end) c.map.ensures.source in
+    let same = ap (λ f. length (map happening (vec_items f.0.now.parts.events))) c.map.ensures.closure in
+    (tt, serves_from_Range (λ x q k. search rules) (λ x low high. λ _ _ _ _ _ _. omega arith))
 
 pub returns : goal.returns
 returns c =
-    let says = content c.args.chart.now in
-    let inv = c.loop-i.invariant in
-    let high : length says.events ≤ c.loop-i.i = omega (arith, inv.3) in
-    inv.0 ∙ ap (map (placed says)) (take_all c.loop-i.i says.events high)
+    let chart = c.args.chart.now in
+    let says = content chart in
+    let d = placed says (sent 0) in
+    let n = length says.events in
+    let count = ap length c.events.ensures ∙ sym (length-map (vec_items chart.parts.events) happening) in
+    let read : vec_items c.in_ok-places.places ≡ map (λ i. placed says (event_at says i)) (range_with_len 0 (length c.events.result.now)) =
+    items_from_collect {E = AllocError} (Ok c.in_ok-places.places) c.in_ok-places.ensures.ran
+    (YieldsList-from_map _ (λ i. placed says (event_at says i)) (YieldsList-from_range 0 _ (length c.events.result.now) c.map.ensures.source (omega arith)) c.map.ensures.closure (λ x r q k. search rules)) in
+    read ∙ ap (λ m. map (λ i. placed says (event_at says i)) (range_with_len 0 m)) count ∙ sym (fill_by_all (λ i. placed says (event_at says i)) (copied says) n d (length-map says.events (placed says)) (λ k l. get_or-map (placed says) says.events k (sent 0) d l))
