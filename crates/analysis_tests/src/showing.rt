@@ -8,80 +8,58 @@ use std::io;
 // More lines than any listing that is shown whole.
 const LINES: usize = 16;
 
-fn print_front(rt: &HostRuntime, buffer: &[u8], length: usize) -> io::Result<()> {
-    if length > buffer.len() {
-        return println!(rt; "a line beyond its buffer");
-    }
-    rt.write_all(&buffer[0..length])
+// A chart over a wiring, and where its answers are shown.
+#[derive(Drop)]
+pub(crate) struct Trial<'a, D> {
+    pub rt: &'a HostRuntime,
+    pub chart: &'a Chart,
+    pub delivery: D,
 }
 
-pub(crate) fn print_line<D: Delivery>(
-    rt: &HostRuntime,
-    chart: &Chart,
-    delivery: &D,
-    line: usize,
-    buffer: &mut [u8],
-) -> io::Result<()> {
-    match listing_line(chart, delivery, line, buffer) {
-        Ok(length) => print_front(rt, buffer, length),
-        Err(refusal) => {
-            let number = refusal.number();
-            println!(rt; "line {line}: refused {number}")
+impl<D: Delivery> Trial<'_, D> {
+    fn print_front(&self, buffer: &[u8], length: usize) -> io::Result<()> {
+        match buffer.get(..length) {
+            Some(front) => self.rt.write_all(front),
+            None => println!(self.rt; "a line beyond its buffer"),
         }
     }
-}
 
-fn print_lines<D: Delivery>(
-    rt: &HostRuntime,
-    chart: &Chart,
-    delivery: &D,
-    buffer: &mut [u8],
-) -> io::Result<()> {
-    for line in 0..LINES {
-        let Ok(length) = listing_line(chart, delivery, line, buffer) else {
-            return Ok(());
-        };
-        print_front(rt, buffer, length)?;
+    pub(crate) fn print_line(&self, line: usize, buffer: &mut [u8]) -> io::Result<()> {
+        match listing_line(self.chart, &self.delivery, line, buffer) {
+            Ok(length) => self.print_front(buffer, length),
+            Err(refusal) => println!(self.rt; "line {line}: refused {}", refusal.number()),
+        }
     }
-    Ok(())
-}
 
-pub(crate) fn print_listing<D: Delivery>(
-    rt: &HostRuntime,
-    wiring: &str,
-    chart: &Chart,
-    delivery: &D,
-) -> io::Result<()> {
-    println!(rt; "{wiring}")?;
-    print_lines(rt, chart, delivery, &mut [0u8; LINE_ROOM])
-}
-
-// The answer to a call for a report, and the whole buffer after it.
-pub(crate) fn print_report<D: Delivery>(
-    rt: &HostRuntime,
-    chart: &Chart,
-    delivery: &D,
-    buffer: &mut [u8],
-) -> io::Result<()> {
-    print_answer(rt, chart, delivery, buffer)?;
-    for byte in buffer.iter() {
-        print!(rt; " {byte}")?;
+    fn print_lines(&self, buffer: &mut [u8]) -> io::Result<()> {
+        for line in 0..LINES {
+            let Ok(length) = listing_line(self.chart, &self.delivery, line, buffer) else {
+                return Ok(());
+            };
+            self.print_front(buffer, length)?;
+        }
+        Ok(())
     }
-    println!(rt; "")
-}
 
-pub(crate) fn print_answer<D: Delivery>(
-    rt: &HostRuntime,
-    chart: &Chart,
-    delivery: &D,
-    buffer: &mut [u8],
-) -> io::Result<()> {
-    let room = buffer.len();
-    match report(chart, delivery, buffer) {
-        Ok(pairs) => print!(rt; "{room} bytes: {pairs} pairs"),
-        Err(refusal) => {
-            let number = refusal.number();
-            print!(rt; "{room} bytes: refused {number}")
+    pub(crate) fn print_listing(&self, wiring: &str) -> io::Result<()> {
+        println!(self.rt; "{wiring}")?;
+        self.print_lines(&mut [0u8; LINE_ROOM])
+    }
+
+    // The answer to a call for a report, and the whole buffer after it.
+    pub(crate) fn print_report(&self, buffer: &mut [u8]) -> io::Result<()> {
+        self.print_answer(buffer)?;
+        for byte in buffer.iter() {
+            print!(self.rt; " {byte}")?;
+        }
+        println!(self.rt; "")
+    }
+
+    pub(crate) fn print_answer(&self, buffer: &mut [u8]) -> io::Result<()> {
+        let room = buffer.len();
+        match report(self.chart, &self.delivery, buffer) {
+            Ok(pairs) => print!(self.rt; "{room} bytes: {pairs} pairs"),
+            Err(refusal) => print!(self.rt; "{room} bytes: refused {}", refusal.number()),
         }
     }
 }

@@ -1,4 +1,1 @@
-pub mod Positions
 pub mod Requests
-pub mod Failures
-pub mod Rows

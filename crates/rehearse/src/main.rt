@@ -2,45 +2,30 @@
 #![tactic(auto)]
 
 mod arguments;
-mod failures;
-mod input;
-mod positions;
-mod table;
 
-use arguments::{Request, USAGE, requested};
-use chart::charting::Chart;
-use failures::{Failure, refused};
-use input::{Source, text_of};
-use reader::reading::read;
+use arguments::{Failure, Request, USAGE, requested};
+use console::failures::status;
+use console::reading::chart_in;
+use console::source::Source;
+use console::table::print_chart;
 use std::process::ExitCode;
-use table::print_chart;
 
 fn show(rt: &HostRuntime, source: &Source) -> Result<(), Failure> {
-    let text = text_of(rt, source)?;
-    let mut chart = Chart::blank(rt.alloc());
-    match read(&mut chart, &text) {
-        Ok(()) => print_chart(rt, &chart),
-        Err(error) => Err(refused(error, &text)),
-    }
+    // Both programs begin so: of a function of console for these two lines no clause could say what a file gives.
+    let text = source.bytes(rt).map_err(Failure::Unreadable)?;
+    let chart = chart_in(rt.alloc(), &text)?;
+    print_chart(rt, &chart)?;
+    Ok(())
 }
 
 fn run(rt: &HostRuntime) -> Result<(), Failure> {
     match requested(rt)? {
-        Request::Help => {
-            println!(rt; "{USAGE}")?;
-            Ok(())
-        }
-        Request::Show(source) => show(rt, &source),
+        Request::Help => println!(rt; "{USAGE}")?,
+        Request::Show(source) => show(rt, &source)?,
     }
+    Ok(())
 }
 
 fn main(rt: HostRuntime) -> ExitCode {
-    match run(&rt) {
-        Ok(()) => ExitCode::SUCCESS,
-        Err(failure) => {
-            // where standard error is closed too, the status alone tells
-            let _ = rt.eprintln(&failure);
-            ExitCode::FAILURE
-        }
-    }
+    status(&rt, run(&rt))
 }

@@ -1,6 +1,4 @@
-pub mod Positions
 pub mod Requests
-pub mod Failures
-pub mod Rows
+pub mod Names
 pub mod Sending
 pub mod Piles

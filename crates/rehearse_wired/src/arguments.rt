@@ -1,14 +1,13 @@
 // What the program is asked to do.
-ghost use Rattle.std.specs.Prelude.{◌≡◌, ℕ, true, ◌⊎◌, is_some, IfOk, Err, string_bytes, Option};
-ghost use Rattle.rehearse_wired.specs.Requests.{dashed, kind_of, bottom_of, NumberRead, RelayRead, Once, chosen, source_set, bottom_in, bound_in, relay_in, AsksFor};
+ghost use Rattle.std.specs.Prelude.{◌≡◌, IfOk, string_bytes};
+ghost use Rattle.rehearse_wired.specs.Requests.{kind_of, RelayRead, value_of, stands, Joined, source_set, AsksFor};
 
-use super::failures::Failure;
-use super::input::Source;
+use super::misuse::{Failure, Misuse};
 use super::wiring::{Bottom, RelayWish, Wiring};
 use chart::numbers::EventId;
-use chart::words::same_text;
+use console::source::Source;
 use std::alloc::{AllocError, Global};
-use std::env;
+use std::{env, fmt};
 
 pub(crate) const USAGE: &str =
     "usage: rehearse_wired [--wiring bag|paired|mailbox|meeting] [--bound N] [--relay N:INSTANCE,INSTANCE..] [--fire EVENT,EVENT..] [FILE]
@@ -29,6 +28,17 @@ pub(crate) enum Key {
     Fire,
 }
 
+impl fmt::Display for Key {
+    fn fmt<W: fmt::Write>(&self, f: &mut fmt::Formatter<W>) -> fmt::Result {
+        f.write_str(match self {
+            Key::Wiring => "--wiring",
+            Key::Bound => "--bound",
+            Key::Relay => "--relay",
+            Key::Fire => "--fire",
+        })
+    }
+}
+
 // What a word stands for where an option or the file may stand.
 #[derive(Clone, Copy)]
 pub(crate) enum Kind {
@@ -40,6 +50,24 @@ pub(crate) enum Kind {
     Stray,
 }
 
+impl From<&str> for Kind {
+    ghost from_gives = { λ word kind. kind ≡ kind_of word.now };
+
+    fn from(word: &str) -> Kind {
+        match word {
+            "--wiring" => Kind::Option(Key::Wiring),
+            "--bound" => Kind::Option(Key::Bound),
+            "--relay" => Kind::Option(Key::Relay),
+            "--fire" => Kind::Option(Key::Fire),
+            "--help" => Kind::Help,
+            "-" => Kind::Input,
+            option if option.starts_with('-') => Kind::Stray,
+            _ => Kind::File,
+        }
+    }
+}
+
+// Help is a wish of its own, and no rehearsal that is missing, so this is no Option.
 #[derive(Drop)]
 pub(crate) enum Request {
     Help,
@@ -47,77 +75,13 @@ pub(crate) enum Request {
 }
 
 // What was asked for so far; None where nothing was.
-#[derive(Drop)]
+#[derive(Default, Drop)]
 pub(crate) struct Choices {
     pub source: Option<Source>,
     pub bottom: Option<Bottom>,
     pub bound: Option<u16>,
     pub relay: Option<RelayWish>,
     pub events: Option<Vec<EventId>>,
-}
-
-const NO_CHOICES: Choices = Choices {
-    source: None,
-    bottom: None,
-    bound: None,
-    relay: None,
-    events: None,
-};
-
-fn begins_with_dash(word: &[u8]) -> bool
-    ensures { result ≡ dashed word.now }
-{
-    match word {
-        [first, ..] => *first == b'-',
-        [] => false,
-    }
-}
-
-fn kind_of(word: &[u8]) -> Kind
-    ensures { result ≡ kind_of word.now }
-{
-    if same_text(word, b"--wiring") {
-        Kind::Option(Key::Wiring)
-    } else if same_text(word, b"--bound") {
-        Kind::Option(Key::Bound)
-    } else if same_text(word, b"--relay") {
-        Kind::Option(Key::Relay)
-    } else if same_text(word, b"--fire") {
-        Kind::Option(Key::Fire)
-    } else if same_text(word, b"--help") {
-        Kind::Help
-    } else if same_text(word, b"-") {
-        Kind::Input
-    } else if begins_with_dash(word) {
-        Kind::Stray
-    } else {
-        Kind::File
-    }
-}
-
-fn bottom_of(word: &[u8]) -> Option<Bottom>
-    ensures { result ≡ bottom_of word.now }
-{
-    if same_text(word, b"bag") {
-        Some(Bottom::Bag)
-    } else if same_text(word, b"paired") {
-        Some(Bottom::PairedLine)
-    } else if same_text(word, b"mailbox") {
-        Some(Bottom::Mailbox)
-    } else if same_text(word, b"meeting") {
-        Some(Bottom::Meeting)
-    } else {
-        None
-    }
-}
-
-fn number_of(word: &str) -> Option<u16>
-    ensures { NumberRead word.now result }
-{
-    match word.parse::<u16>() {
-        Ok(number) => Some(number),
-        Err(_) => None,
-    }
 }
 
 // A number, a colon, and names. Whether the chart has the names is seen when it has been read.
@@ -127,7 +91,7 @@ fn relay_of(heap: Global, word: &str) -> Result<Option<RelayWish>, AllocError>
     let Some((digits, names)) = word.split_once(':') else {
         return Ok(None);
     };
-    let Some(number) = number_of(digits) else {
+    let Ok(number) = digits.parse() else {
         return Ok(None);
     };
     let members = String::from_str(heap, names)?;
@@ -136,146 +100,103 @@ fn relay_of(heap: Global, word: &str) -> Result<Option<RelayWish>, AllocError>
 
 // Numbers with commas between.
 fn events_of(heap: Global, word: &str) -> Result<Option<Vec<EventId>>, AllocError> {
-    let mut events = Vec::new(heap);
-    for digits in word.split(',') {
-        match number_of(digits) {
-            Some(number) => events.push(EventId(number))?,
-            None => return Ok(None),
+    let numbers = word.split(',').map(|digits| digits.parse().ok());
+    numbers.map(|number| number.map(EventId)).collect(heap)
+}
+
+// What was read of an option's word, if anything was.
+fn value<T: Drop>(read: Option<T>, key: Key, word: String) -> Result<Option<T>, Failure>
+    ensures { result ≡ value_of read key word }
+{
+    let bad = Failure::Misused(Misuse::BadValue(key, word));
+    read.map(Some).ok_or(bad)
+}
+
+impl Choices {
+    fn has(&self, key: Key) -> bool
+        ensures { result ≡ stands self.now key }
+    {
+        match key {
+            Key::Wiring => self.bottom.is_some(),
+            Key::Bound => self.bound.is_some(),
+            Key::Relay => self.relay.is_some(),
+            Key::Fire => self.events.is_some(),
         }
     }
-    Ok(Some(events))
-}
 
-fn with_source(choices: Choices, source: Source) -> Result<Choices, Failure>
-    ensures { result ≡ source_set choices source }
-{
-    if choices.source.is_some() {
-        return Err(Failure::SecondFile);
+    fn with_source(self, source: Source) -> Result<Choices, Failure>
+        ensures { result ≡ source_set self source }
+    {
+        if self.source.is_some() {
+            return Err(Failure::Misused(Misuse::SecondFile));
+        }
+        Ok(Choices {
+            source: Some(source),
+            ..self
+        })
     }
-    Ok(Choices {
-        source: Some(source),
-        ..choices
-    })
-}
 
-fn with_bottom(choices: Choices, word: String) -> Result<Choices, Failure>
-    ensures { Once choices.bottom Key.Wiring result (result ≡ chosen (bottom_of (string_bytes word)) (bottom_in choices) (Failure.BadValue Key.Wiring word)) }
-{
-    if choices.bottom.is_some() {
-        return Err(Failure::Twice(Key::Wiring));
+    // The choices and an option with its word, which stands at most once.
+    fn with_option(self, heap: Global, key: Key, word: String) -> Result<Choices, Failure>
+        ensures { Joined self key word result }
+    {
+        if self.has(key) {
+            return Err(Failure::Misused(Misuse::Twice(key)));
+        }
+        Ok(match key {
+            Key::Wiring => Choices {
+                bottom: value(word.parse().ok(), key, word)?,
+                ..self
+            },
+            Key::Bound => Choices {
+                bound: value(word.parse().ok(), key, word)?,
+                ..self
+            },
+            Key::Relay => Choices {
+                relay: value(relay_of(heap, word.as_str())?, key, word)?,
+                ..self
+            },
+            Key::Fire => Choices {
+                events: value(events_of(heap, word.as_str())?, key, word)?,
+                ..self
+            },
+        })
     }
-    match bottom_of(word.as_bytes()) {
-        Some(bottom) => Ok(Choices {
-            bottom: Some(bottom),
-            ..choices
-        }),
-        None => Err(Failure::BadValue(Key::Wiring, word)),
-    }
-}
 
-fn with_bound(choices: Choices, word: String) -> Result<Choices, Failure>
-    ensures { Once choices.bound Key.Bound result ((o : Option ℕ) × NumberRead (string_bytes word) o × (result ≡ chosen o (bound_in choices) (Failure.BadValue Key.Bound word))) }
-{
-    if choices.bound.is_some() {
-        return Err(Failure::Twice(Key::Bound));
+    fn request(self, heap: Global) -> Request
+        ensures { AsksFor self result }
+    {
+        Request::Rehearse(
+            self.source.unwrap_or(Source::Input),
+            Wiring {
+                bottom: self.bottom.unwrap_or(Bottom::PairedLine),
+                bound: self.bound,
+                relay: self.relay,
+            },
+            self.events.unwrap_or(Vec::new(heap)),
+        )
     }
-    match number_of(word.as_str()) {
-        Some(number) => Ok(Choices {
-            bound: Some(number),
-            ..choices
-        }),
-        None => Err(Failure::BadValue(Key::Bound, word)),
-    }
-}
-
-fn with_relay(heap: Global, choices: Choices, word: String) -> Result<Choices, Failure>
-    ensures { Once choices.relay Key.Relay result ((result ≡ Err Failure.OutOfMemory) ⊎ ((o : Option RelayWish) × RelayRead (string_bytes word) o × (result ≡ chosen o (relay_in choices) (Failure.BadValue Key.Relay word)))) }
-{
-    if choices.relay.is_some() {
-        return Err(Failure::Twice(Key::Relay));
-    }
-    match relay_of(heap, word.as_str()) {
-        Ok(Some(relay)) => Ok(Choices {
-            relay: Some(relay),
-            ..choices
-        }),
-        Ok(None) => Err(Failure::BadValue(Key::Relay, word)),
-        Err(_) => Err(Failure::OutOfMemory),
-    }
-}
-
-fn with_events(heap: Global, choices: Choices, word: String) -> Result<Choices, Failure>
-    ensures { is_some choices.events ≡ true → result ≡ Err (Failure.Twice Key.Fire) }
-{
-    if choices.events.is_some() {
-        return Err(Failure::Twice(Key::Fire));
-    }
-    match events_of(heap, word.as_str()) {
-        Ok(Some(events)) => Ok(Choices {
-            events: Some(events),
-            ..choices
-        }),
-        Ok(None) => Err(Failure::BadValue(Key::Fire, word)),
-        Err(_) => Err(Failure::OutOfMemory),
-    }
-}
-
-fn with_value(heap: Global, choices: Choices, key: Key, word: String) -> Result<Choices, Failure> {
-    match key {
-        Key::Wiring => with_bottom(choices, word),
-        Key::Bound => with_bound(choices, word),
-        Key::Relay => with_relay(heap, choices, word),
-        Key::Fire => with_events(heap, choices, word),
-    }
-}
-
-fn request_of(heap: Global, choices: Choices) -> Request
-    ensures { AsksFor choices result }
-{
-    let Choices {
-        source,
-        bottom,
-        bound,
-        relay,
-        events,
-    } = choices;
-    Request::Rehearse(
-        source.unwrap_or(Source::Input),
-        Wiring {
-            bottom: bottom.unwrap_or(Bottom::PairedLine),
-            bound,
-            relay,
-        },
-        events.unwrap_or(Vec::new(heap)),
-    )
 }
 
 fn words_read(heap: Global, words: Vec<String>) -> Result<Request, Failure> {
-    let mut choices = NO_CHOICES;
-    let mut waiting = None;
-    for word in words {
-        if let Some(key) = waiting {
-            choices = with_value(heap, choices, key, word)?;
-            waiting = None;
-            continue;
-        }
-        match kind_of(word.as_bytes()) {
+    let mut choices = Choices::default();
+    let mut words = words.into_iter();
+    while let Some(word) = words.next() {
+        choices = match Kind::from(word.as_str()) {
             Kind::Help => return Ok(Request::Help),
-            Kind::Input => choices = with_source(choices, Source::Input)?,
-            Kind::File => choices = with_source(choices, Source::File(word))?,
-            Kind::Option(key) => waiting = Some(key),
-            Kind::Stray => return Err(Failure::Stray(word)),
-        }
+            Kind::Input => choices.with_source(Source::Input)?,
+            Kind::File => choices.with_source(Source::File(word))?,
+            Kind::Option(key) => {
+                let value = words.next().ok_or(Misuse::NoValue(key))?;
+                choices.with_option(heap, key, value)?
+            }
+            Kind::Stray => return Err(Failure::Misused(Misuse::Stray(word))),
+        };
     }
-    match waiting {
-        Some(key) => Err(Failure::NoValue(key)),
-        None => Ok(request_of(heap, choices)),
-    }
+    Ok(choices.request(heap))
 }
 
 pub(crate) fn requested(rt: &HostRuntime) -> Result<Request, Failure> {
-    match env::args(rt) {
-        Ok(args) => words_read(rt.alloc(), args.skip(1).collect(rt.alloc())?),
-        Err(error) => Err(Failure::NoArguments(error)),
-    }
+    let words = env::args(rt).map_err(Failure::NoArguments)?.skip(1);
+    words_read(rt.alloc(), words.collect(rt.alloc())?)
 }

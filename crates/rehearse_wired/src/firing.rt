@@ -1,144 +1,95 @@
 // Events fired on a bench, each with its answer.
-use super::failures::Failure;
-use super::sending::message_name;
-use super::table::shown;
+use super::misuse::Failure;
+use super::naming::Named;
+use super::piles::Rehearsal;
 use bench::refusal::{Firing, Obstacle, Refusal};
 use bench::stand::Bench;
-use chart::charting::Chart;
-use chart::numbers::{EventId, InstanceId, MessageId};
+use chart::numbers::EventId;
 use delivery::meaning::Delivery;
-use std::alloc::{AllocError, Global};
-
-fn instance_name(chart: &Chart, instance: InstanceId) -> &str {
-    match chart.instances().get(instance.0 as usize) {
-        Some(name) => shown(name),
-        None => "",
-    }
-}
+use std::{fmt, io};
 
 // What stands in the way of an event.
-fn obstacle_words(heap: Global, chart: &Chart, obstacle: Obstacle) -> Result<String, AllocError> {
-    match obstacle {
-        Obstacle::InRecord => String::from_str(heap, "it is in the record"),
-        Obstacle::AboveMissing { first } => {
-            let event = first.0;
-            format!(in heap; "event {event} of its instance is missing")
+impl fmt::Display for Named<'_, Obstacle> {
+    fn fmt<W: fmt::Write>(&self, f: &mut fmt::Formatter<W>) -> fmt::Result {
+        match self.1 {
+            Obstacle::InRecord => write!(f, "it is in the record"),
+            Obstacle::AboveMissing { first } => write!(
+                f,
+                "event {} of its instance is missing",
+                first.0
+            ),
+            Obstacle::OutMissing => write!(f, "its out event is missing"),
+            Obstacle::Full { layer } => write!(f, "the wiring is full at layer {layer}"),
+            Obstacle::Held { holder, layer } => {
+                let name = Named(self.0, holder);
+                write!(f, "message {}, {name}, holds it at layer {layer}", holder.0)
+            }
         }
-        Obstacle::OutMissing => String::from_str(heap, "its out event is missing"),
-        Obstacle::Full { layer } => format!(in heap; "the wiring is full at layer {layer}"),
-        Obstacle::Held { holder, layer } => held_words(heap, chart, holder, layer),
     }
-}
-
-fn held_words(
-    heap: Global,
-    chart: &Chart,
-    holder: MessageId,
-    layer: u8,
-) -> Result<String, AllocError> {
-    let number = holder.0;
-    let name = message_name(chart, holder);
-    format!(in heap; "message {number}, {name}, holds it at layer {layer}")
 }
 
 // The event that was to be fired, with its instance and message.
-fn firing_words(heap: Global, chart: &Chart, firing: Firing) -> Result<String, AllocError> {
-    let event = firing.event.0;
-    let instance = instance_name(chart, firing.instance);
-    let message = message_name(chart, firing.message);
-    format!(in heap; "event {event} at {instance}, message {message}")
-}
-
-fn unfired_words(
-    heap: Global,
-    chart: &Chart,
-    firing: Firing,
-    obstacle: Obstacle,
-) -> Result<String, AllocError> {
-    let event = firing_words(heap, chart, firing)?;
-    let why = obstacle_words(heap, chart, obstacle)?;
-    format!(in heap; "{event}: {why}")
-}
-
-fn reason_words(heap: Global, chart: &Chart, refusal: Refusal) -> Result<String, AllocError> {
-    match refusal {
-        Refusal::PlayOpen => String::from_str(heap, "a play is open"),
-        Refusal::NotInChart { event } => {
-            let number = event.0;
-            format!(in heap; "event {number} is not in the chart")
-        }
-        Refusal::Unfired { firing, obstacle } => unfired_words(heap, chart, firing, obstacle),
-        Refusal::RecordNotEmpty => String::from_str(heap, "the record is not empty"),
-        Refusal::BadSchedule { place } => format!(in heap; "record {place} of the schedule is bad"),
-        Refusal::NoPlay => String::from_str(heap, "no play is open"),
-        Refusal::NoEventLeft => String::from_str(heap, "the play has no event left"),
+impl fmt::Display for Named<'_, Firing> {
+    fn fmt<W: fmt::Write>(&self, f: &mut fmt::Formatter<W>) -> fmt::Result {
+        let event = self.1.event.0;
+        let instance = Named(self.0, self.1.instance);
+        let message = Named(self.0, self.1.message);
+        write!(f, "event {event} at {instance}, message {message}")
     }
 }
 
-fn answer_words(
-    heap: Global,
-    chart: &Chart,
-    waiting: usize,
-    answer: Result<(), Refusal>,
-) -> Result<String, AllocError> {
-    match answer {
-        Ok(()) => format!(in heap; "accepted, {waiting} waiting"),
-        Err(refusal) => {
-            let number = refusal.number();
-            let why = reason_words(heap, chart, refusal)?;
-            format!(in heap; "refused {number}, {why}")
+// Why a call on a bench comes back.
+impl fmt::Display for Named<'_, Refusal> {
+    fn fmt<W: fmt::Write>(&self, f: &mut fmt::Formatter<W>) -> fmt::Result {
+        match self.1 {
+            Refusal::PlayOpen => write!(f, "a play is open"),
+            Refusal::NotInChart { event } => write!(f, "event {} is not in the chart", event.0),
+            Refusal::Unfired { firing, obstacle } => {
+                let event = Named(self.0, firing);
+                let why = Named(self.0, obstacle);
+                write!(f, "{event}: {why}")
+            }
+            Refusal::RecordNotEmpty => write!(f, "the record is not empty"),
+            Refusal::BadSchedule { place } => write!(f, "record {place} of the schedule is bad"),
+            Refusal::NoPlay => write!(f, "no play is open"),
+            Refusal::NoEventLeft => write!(f, "the play has no event left"),
         }
     }
 }
 
-fn print_firing<D: Delivery>(
-    rt: &HostRuntime,
-    chart: &Chart,
-    bench: &mut Bench<D>,
-    event: EventId,
-) -> Result<(), Failure> {
-    let answer = bench.fire(event);
-    let words = answer_words(rt.alloc(), chart, bench.waiting_count(), answer)?;
-    let number = event.0;
-    println!(rt; "fire {number}: {words}")?;
-    Ok(())
-}
-
-fn print_record<D: Delivery>(rt: &HostRuntime, bench: &Bench<D>) -> Result<(), Failure> {
-    print!(rt; "record:")?;
-    for event in bench.fired() {
-        let number = event.0;
-        print!(rt; " {number}")?;
+impl Rehearsal<'_> {
+    fn print_firing<D: Delivery>(&self, bench: &mut Bench<D>, event: EventId) -> io::Result<()> {
+        let answer = bench.fire(event);
+        print!(self.rt; "fire {}: ", event.0)?;
+        match answer {
+            Ok(()) => println!(self.rt; "accepted, {} waiting", bench.waiting_count()),
+            Err(refusal) => {
+                let why = Named(self.chart, refusal);
+                println!(self.rt; "refused {}, {why}", refusal.number())
+            }
+        }
     }
-    println!(rt)?;
-    Ok(())
-}
 
-fn print_firings<D: Delivery>(
-    rt: &HostRuntime,
-    chart: &Chart,
-    bench: &mut Bench<D>,
-    events: &[EventId],
-) -> Result<(), Failure> {
-    println!(rt)?;
-    for event in events {
-        print_firing(rt, chart, bench, *event)?;
+    fn print_record<D: Delivery>(&self, bench: &Bench<D>) -> io::Result<()> {
+        print!(self.rt; "record:")?;
+        for event in bench.fired() {
+            print!(self.rt; " {}", event.0)?;
+        }
+        println!(self.rt)
     }
-    print_record(rt, bench)
-}
 
-// Opens a bench over the wiring and fires the events on it; nothing if there are none.
-pub(crate) fn fire_all<D: Delivery + Drop>(
-    rt: &HostRuntime,
-    chart: &Chart,
-    delivery: D,
-    events: &[EventId],
-) -> Result<(), Failure> {
-    if events.is_empty() {
-        return Ok(());
-    }
-    match Bench::open(rt.alloc(), chart, delivery) {
-        Ok(mut bench) => print_firings(rt, chart, &mut bench, events),
-        Err(_) => Err(Failure::OutOfMemory),
+    // Opens a bench over the wiring and fires the events on it; nothing if there are none.
+    pub(crate) fn fire_all<D: Delivery + Drop>(&self, delivery: D) -> Result<(), Failure> {
+        if self.events.is_empty() {
+            return Ok(());
+        }
+        let opened = Bench::open(self.rt.alloc(), self.chart, delivery);
+        let mut bench = opened.map_err(|_| Failure::OutOfMemory)?;
+        println!(self.rt)?;
+        for event in self.events {
+            self.print_firing(&mut bench, *event)?;
+        }
+        self.print_record(&bench)?;
+        Ok(())
     }
 }

@@ -3,23 +3,21 @@
 #![tactic(auto)]
 
 mod arguments;
-mod failures;
 mod firing;
-mod input;
 mod listing;
+mod misuse;
+mod naming;
 mod piles;
-mod positions;
 mod sending;
-mod table;
 mod wiring;
 
 use arguments::{Request, USAGE, requested};
-use chart::charting::Chart;
 use chart::numbers::EventId;
-use failures::{Failure, refused};
-use input::{Source, text_of};
-use piles::print_all;
-use reader::reading::read;
+use console::failures::status;
+use console::reading::chart_in;
+use console::source::Source;
+use misuse::Failure;
+use piles::Rehearsal;
 use std::process::ExitCode;
 use wiring::Wiring;
 
@@ -29,31 +27,26 @@ fn show(
     wiring: &Wiring,
     events: &[EventId],
 ) -> Result<(), Failure> {
-    let text = text_of(rt, source)?;
-    let mut chart = Chart::blank(rt.alloc());
-    match read(&mut chart, &text) {
-        Ok(()) => print_all(rt, &chart, wiring, events),
-        Err(error) => Err(refused(error, &text)),
-    }
+    // Both programs begin so: of a function of console for these two lines no clause could say what a file gives.
+    let text = source.bytes(rt).map_err(Failure::Unreadable)?;
+    let chart = chart_in(rt.alloc(), &text)?;
+    let rehearsal = Rehearsal {
+        rt,
+        chart: &chart,
+        wiring,
+        events,
+    };
+    rehearsal.print()
 }
 
 fn run(rt: &HostRuntime) -> Result<(), Failure> {
     match requested(rt)? {
-        Request::Help => {
-            println!(rt; "{USAGE}")?;
-            Ok(())
-        }
-        Request::Rehearse(source, wiring, events) => show(rt, &source, &wiring, &events),
+        Request::Help => println!(rt; "{USAGE}")?,
+        Request::Rehearse(source, wiring, events) => show(rt, &source, &wiring, &events)?,
     }
+    Ok(())
 }
 
 fn main(rt: HostRuntime) -> ExitCode {
-    match run(&rt) {
-        Ok(()) => ExitCode::SUCCESS,
-        Err(failure) => {
-            // where standard error is closed too, the status alone tells
-            let _ = rt.eprintln(&failure);
-            ExitCode::FAILURE
-        }
-    }
+    status(&rt, run(&rt))
 }

@@ -1,224 +1,179 @@
 // The messages of a chart, sent through a delivery in drawn order.
-ghost use Rattle.std.specs.Prelude.{◌≡◌, IfOk, string_bytes};
-ghost use Rattle.rehearse_wired.specs.Sending.{refused_words, put_refusal_words, put_words};
+ghost use Rattle.std.specs.Prelude.{Some};
+ghost use Rattle.chart.specs.Charted.{content};
+ghost use Rattle.rehearse_wired.specs.Sending.{put_words, rule_words, take_words};
 
-use super::failures::Failure;
-use super::table::shown;
+use super::naming::Named;
+use super::piles::Rehearsal;
 use chart::charting::Chart;
 use chart::charting::asking::Line;
-use chart::names::Name;
-use chart::numbers::{EventId, InstanceId, MessageId};
-use chart::pieces::{Message, Side};
+use chart::numbers::EventId;
+use chart::pieces::Side;
 use delivery::meaning::Delivery;
 use delivery::parcel::{Parcel, Tag};
 use delivery::refusal::{Accepted, PutRefusal, TakeRefusal};
-use delivery::station::Station;
 use order::tags::tag_of;
-use std::alloc::{AllocError, Global};
+use std::{fmt, io};
 
 // The heading of the messages' column is as wide as it is at least.
 const HEADING: usize = 7;
 
-fn longest(messages: &[Message]) -> usize {
-    let mut most = HEADING;
-    for message in messages {
-        most = most.max(message.name.text().len());
-    }
-    most
-}
+// The call that an event on this side of its message makes.
+#[derive(Clone, Copy)]
+struct Call(Side);
 
-pub(crate) fn message_name(chart: &Chart, message: MessageId) -> &str {
-    match chart.messages().get(message.0 as usize) {
-        Some(message) => shown(&message.name),
-        None => "unknown",
+impl fmt::Display for Call {
+    fn fmt<W: fmt::Write>(&self, f: &mut fmt::Formatter<W>) -> fmt::Result {
+        f.pad(match self.0 {
+            Side::Out => "put",
+            Side::In => "take",
+        })
     }
 }
 
-fn station_name(chart: &Chart, station: Station) -> &str {
-    match chart.instances().get(station.number() as usize) {
-        Some(name) => shown(name),
-        None => "unknown",
+#[derive(Clone, Copy)]
+struct PutAnswer(Result<Accepted, PutRefusal>);
+
+impl fmt::Display for PutAnswer {
+    ghost output = { λ answer. Some (put_words answer.0) };
+
+    fn fmt<W: fmt::Write>(&self, f: &mut fmt::Formatter<W>) -> fmt::Result {
+        match self.0 {
+            Ok(_) => write!(f, "accepted"),
+            Err(PutRefusal::Far { layer }) => write!(f, "refused: far, layer {layer}"),
+            Err(PutRefusal::Double { layer }) => write!(f, "refused: double, layer {layer}"),
+            Err(PutRefusal::Full { layer }) => write!(f, "refused: full, layer {layer}"),
+        }
     }
 }
 
-fn tag_words(heap: Global, chart: &Chart, tag: Tag) -> Result<String, AllocError> {
-    let sender = station_name(chart, tag.sender);
-    let receiver = station_name(chart, tag.receiver);
-    format!(in heap; "{sender} to {receiver}")
-}
-
-fn refused_words(heap: Global, words: &str, layer: u8) -> Result<String, AllocError>
-    ensures { IfOk result (λ s. string_bytes s ≡ refused_words words.now layer) }
-{
-    format!(in heap; "refused: {words}, layer {layer}")
-}
-
-fn put_refusal_words(heap: Global, refusal: PutRefusal) -> Result<String, AllocError>
-    ensures { IfOk result (λ s. string_bytes s ≡ put_refusal_words refusal) }
-{
-    match refusal {
-        PutRefusal::Far { layer } => refused_words(heap, "far", layer),
-        PutRefusal::Double { layer } => refused_words(heap, "double", layer),
-        PutRefusal::Full { layer } => refused_words(heap, "full", layer),
-    }
-}
-
-fn put_words(heap: Global, answer: Result<Accepted, PutRefusal>) -> Result<String, AllocError>
-    ensures { IfOk result (λ s. string_bytes s ≡ put_words answer) }
-{
-    match answer {
-        Ok(_) => String::from_str(heap, "accepted"),
-        Err(refusal) => put_refusal_words(heap, refusal),
-    }
-}
-
-// What a delivery's hold rule says of two tags.
-fn rule_words<D: Delivery>(
-    heap: Global,
-    chart: &Chart,
-    delivery: &D,
-    first: Tag,
-    second: Tag,
-) -> Result<String, AllocError> {
-    let verb = if delivery.holds(first, second) {
-        "holds"
-    } else {
-        "does not hold"
-    };
-    let first = tag_words(heap, chart, first)?;
-    let second = tag_words(heap, chart, second)?;
-    format!(in heap; "{first} {verb} {second}")
-}
-
-fn held_words<D: Delivery>(
-    heap: Global,
-    chart: &Chart,
-    delivery: &D,
-    by: MessageId,
+// What a delivery's hold rule says of a holder's tag, if it has one, and a message's.
+#[derive(Clone, Copy)]
+struct Rule<'a, D> {
+    chart: &'a Chart,
+    delivery: &'a D,
+    holder: Option<Tag>,
     tag: Tag,
-    layer: u8,
-) -> Result<String, AllocError> {
-    let name = message_name(chart, by);
-    let held = format!(in heap; "refused: held by message {name}, layer {layer}")?;
-    let Some(holder) = tag_of(chart, by) else {
-        return Ok(held);
-    };
-    let rule = rule_words(heap, chart, delivery, holder, tag)?;
-    format!(in heap; "{held}; {rule}")
 }
 
-fn take_refusal_words<D: Delivery>(
-    heap: Global,
-    chart: &Chart,
-    delivery: &D,
-    tag: Tag,
-    refusal: TakeRefusal,
-) -> Result<String, AllocError> {
-    match refusal {
-        TakeRefusal::Absent { layer } => refused_words(heap, "absent", layer),
-        TakeRefusal::Held { by, layer } => held_words(heap, chart, delivery, by, tag, layer),
+impl<D: Delivery> fmt::Display for Rule<'_, D> {
+    ghost output = { λ told. Some (rule_words (content told.chart.now) (D.rule told.delivery.now) told.holder told.tag) };
+
+    fn fmt<W: fmt::Write>(&self, f: &mut fmt::Formatter<W>) -> fmt::Result {
+        let Some(holder) = self.holder else {
+            return Ok(());
+        };
+        let verb = if self.delivery.holds(holder, self.tag) {
+            "holds"
+        } else {
+            "does not hold"
+        };
+        let first = Named(self.chart, holder);
+        let second = Named(self.chart, self.tag);
+        write!(f, "; {first} {verb} {second}")
     }
 }
 
-fn take_words<D: Delivery>(
-    heap: Global,
-    chart: &Chart,
-    delivery: &D,
+// The answer to the take of a message with this tag.
+#[derive(Clone, Copy)]
+struct TakeAnswer<'a, D> {
+    chart: &'a Chart,
+    delivery: &'a D,
     tag: Tag,
     answer: Result<Parcel, TakeRefusal>,
-) -> Result<String, AllocError> {
-    match answer {
-        Ok(parcel) => {
-            let ends = tag_words(heap, chart, parcel.tag)?;
-            format!(in heap; "taken, {ends}")
-        }
-        Err(refusal) => take_refusal_words(heap, chart, delivery, tag, refusal),
-    }
 }
 
-// Puts the message of an out event, takes that of an in event, and tells the answer.
-fn answer_to<D: Delivery>(
-    heap: Global,
-    chart: &Chart,
-    delivery: &mut D,
-    line: Line,
-    tag: Tag,
-) -> Result<String, AllocError> {
-    let message = line.message;
-    match line.side {
-        Side::Out => put_words(heap, delivery.put(Parcel { message, tag })),
-        Side::In => {
-            let answer = delivery.take(message);
-            take_words(heap, chart, delivery, tag, answer)
+impl<D: Delivery> fmt::Display for TakeAnswer<'_, D> {
+    ghost output = { λ told. Some (take_words (content told.chart.now) (D.rule told.delivery.now) told.tag told.answer) };
+
+    fn fmt<W: fmt::Write>(&self, f: &mut fmt::Formatter<W>) -> fmt::Result {
+        match self.answer {
+            Ok(parcel) => write!(f, "taken, {}", Named(self.chart, parcel.tag)),
+            Err(TakeRefusal::Absent { layer }) => write!(f, "refused: absent, layer {layer}"),
+            Err(TakeRefusal::Held { by, layer }) => {
+                let holder = Named(self.chart, by);
+                let rule = Rule {
+                    chart: self.chart,
+                    delivery: self.delivery,
+                    holder: tag_of(self.chart, by),
+                    tag: self.tag,
+                };
+                write!(f, "refused: held by message {holder}, layer {layer}{rule}")
+            }
         }
     }
 }
 
-fn call_words(side: Side) -> &'static str {
-    match side {
-        Side::Out => "put",
-        Side::In => "take",
+// The delivery goes from call to call beside `self`: a struct that held it by `&mut` got no proof, neither of the call that
+// lends it to an answer nor of the loop over the events.
+impl Rehearsal<'_> {
+    // A call, its message's state after it, and the answer.
+    fn print_call<D: Delivery, A: fmt::Display + Drop>(
+        &self,
+        delivery: &D,
+        event: EventId,
+        line: Line,
+        width: usize,
+        answer: A,
+    ) -> io::Result<()> {
+        let call = Call(line.side);
+        let name = Named(self.chart, line.message);
+        let waits = if delivery.waits(line.message) {
+            "yes"
+        } else {
+            "no"
+        };
+        let count = delivery.count();
+        let number = event.0;
+        println!(self.rt;
+            "{number:>8}  {call:<4}  {name:<width$}  {waits:<5}  {count:>5}  {answer}"
+        )
     }
-}
 
-// Whether a message waits, and how many do.
-fn state_words<D: Delivery>(
-    heap: Global,
-    delivery: &D,
-    message: MessageId,
-) -> Result<String, AllocError> {
-    let waits = if delivery.waits(message) { "yes" } else { "no" };
-    let count = delivery.count();
-    format!(in heap; "{waits:<5}  {count:>5}")
-}
-
-// A call, its message's state after it, and the answer.
-fn print_call<D: Delivery>(
-    rt: &HostRuntime,
-    chart: &Chart,
-    delivery: &mut D,
-    event: EventId,
-    width: usize,
-) -> Result<(), Failure> {
-    let Some(line) = chart.line(event) else {
-        return Ok(());
-    };
-    let Some(tag) = tag_of(chart, line.message) else {
-        return Ok(());
-    };
-    let answer = answer_to(rt.alloc(), chart, delivery, line, tag)?;
-    let state = state_words(rt.alloc(), delivery, line.message)?;
-    let call = call_words(line.side);
-    let name = message_name(chart, line.message);
-    let number = event.0;
-    println!(rt; "{number:>8}  {call:<4}  {name:<width$}  {state}  {answer}")?;
-    Ok(())
-}
-
-fn print_calls<D: Delivery>(
-    rt: &HostRuntime,
-    chart: &Chart,
-    delivery: &mut D,
-) -> Result<(), Failure> {
-    let width = longest(chart.messages());
-    println!(rt;
-        "\n   event  call  {:<width$}  waits  count  answer",
-        "message"
-    )?;
-    for event in 0..chart.events().len() {
-        print_call(rt, chart, delivery, EventId(event as u16), width)?;
+    // Puts the message of an out event, takes that of an in event, and tells the answer.
+    fn send<D: Delivery>(&self, delivery: &mut D, event: EventId, width: usize) -> io::Result<()> {
+        let Some(line) = self.chart.line(event) else {
+            return Ok(());
+        };
+        let message = line.message;
+        let Some(tag) = tag_of(self.chart, message) else {
+            return Ok(());
+        };
+        match line.side {
+            Side::Out => {
+                let answer = PutAnswer(delivery.put(Parcel { message, tag }));
+                self.print_call(delivery, event, line, width, answer)
+            }
+            Side::In => {
+                let answer = delivery.take(message);
+                let answer = TakeAnswer {
+                    chart: self.chart,
+                    delivery: &*delivery,
+                    tag,
+                    answer,
+                };
+                self.print_call(delivery, event, line, width, answer)
+            }
+        }
     }
-    Ok(())
-}
 
-pub(crate) fn print_sending<D: Delivery>(
-    rt: &HostRuntime,
-    chart: &Chart,
-    delivery: &mut D,
-) -> Result<(), Failure> {
-    delivery.empty();
-    let capacity = delivery.capacity();
-    let count = delivery.count();
-    println!(rt; "capacity {capacity}, count {count}")?;
-    print_calls(rt, chart, delivery)
+    pub(crate) fn print_sending<D: Delivery>(&self, delivery: &mut D) -> io::Result<()> {
+        delivery.empty();
+        let capacity = delivery.capacity();
+        let count = delivery.count();
+        println!(self.rt; "capacity {capacity}, count {count}")?;
+        let messages = self.chart.messages().iter();
+        let width = messages
+            .map(|message| message.name.text().len())
+            .fold(HEADING, usize::max);
+        println!(self.rt;
+            "\n   event  call  {:<width$}  waits  count  answer",
+            "message"
+        )?;
+        // The number is shown, and a line is told by the number of its event: the chart has no list of lines to walk.
+        for event in (0..self.chart.events().len() as u16).map(EventId) {
+            self.send(delivery, event, width)?;
+        }
+        Ok(())
+    }
 }

@@ -1,8 +1,11 @@
 // The wiring that is asked for.
-ghost use Rattle.std.specs.Prelude.{◌≡◌, IfOk, string_bytes};
-ghost use Rattle.rehearse_wired.specs.Piles.{bottom_words, bound_words, relay_words, wiring_words};
+ghost use Rattle.std.specs.Prelude.{◌≡◌, Some};
+ghost use Rattle.std.specs.Result.{result_ok};
+ghost use Rattle.rehearse_wired.specs.Requests.{bottom_of};
+ghost use Rattle.rehearse_wired.specs.Piles.{bottom_words, wiring_words};
 
-use std::alloc::{AllocError, Global};
+use std::fmt;
+use std::str::FromStr;
 
 #[derive(Clone, Copy)]
 pub(crate) enum Bottom {
@@ -10,6 +13,26 @@ pub(crate) enum Bottom {
     PairedLine,
     Mailbox,
     Meeting,
+}
+
+// A word that names no bottom.
+#[derive(Clone, Copy)]
+pub(crate) struct UnknownBottom;
+
+impl FromStr for Bottom {
+    type Err = UnknownBottom;
+
+    ghost from_str_gives = { λ word r. result_ok r ≡ bottom_of word };
+
+    fn from_str(word: &str) -> Result<Bottom, UnknownBottom> {
+        match word {
+            "bag" => Ok(Bottom::Bag),
+            "paired" => Ok(Bottom::PairedLine),
+            "mailbox" => Ok(Bottom::Mailbox),
+            "meeting" => Ok(Bottom::Meeting),
+            _ => Err(UnknownBottom),
+        }
+    }
 }
 
 // The relay's number, and the names of those that send through it, with commas between.
@@ -27,41 +50,30 @@ pub(crate) struct Wiring {
     pub relay: Option<RelayWish>,
 }
 
-fn bottom_words(bottom: Bottom) -> &'static str
-    ensures { result.now ≡ bottom_words bottom }
-{
-    match bottom {
-        Bottom::Bag => "bag",
-        Bottom::PairedLine => "paired line",
-        Bottom::Mailbox => "mailbox",
-        Bottom::Meeting => "meeting",
-    }
-}
+impl fmt::Display for Bottom {
+    ghost output = { λ bottom. Some (bottom_words bottom) };
 
-fn bound_words(heap: Global, bound: Option<u16>) -> Result<String, AllocError>
-    ensures { IfOk result (λ s. string_bytes s ≡ bound_words bound) }
-{
-    match bound {
-        Some(number) => format!(in heap; "bound {number} over "),
-        None => Ok(String::new(heap)),
-    }
-}
-
-fn relay_words(heap: Global, relay: &Option<RelayWish>) -> Result<String, AllocError>
-    ensures { IfOk result (λ s. string_bytes s ≡ relay_words relay.now) }
-{
-    match relay {
-        Some(relay) => format!(in heap; "relay {} of {} over ", relay.number, relay.members),
-        None => Ok(String::new(heap)),
+    fn fmt<W: fmt::Write>(&self, f: &mut fmt::Formatter<W>) -> fmt::Result {
+        f.write_str(match self {
+            Bottom::Bag => "bag",
+            Bottom::PairedLine => "paired line",
+            Bottom::Mailbox => "mailbox",
+            Bottom::Meeting => "meeting",
+        })
     }
 }
 
 // The pile from its top to its bottom.
-pub(crate) fn wiring_words(heap: Global, wiring: &Wiring) -> Result<String, AllocError>
-    ensures { IfOk result (λ s. string_bytes s ≡ wiring_words wiring.now) }
-{
-    let relay = relay_words(heap, &wiring.relay)?;
-    let bound = bound_words(heap, wiring.bound)?;
-    let bottom = bottom_words(wiring.bottom);
-    format!(in heap; "{relay}{bound}{bottom}")
+impl fmt::Display for Wiring {
+    ghost output = { λ wiring. Some (wiring_words wiring) };
+
+    fn fmt<W: fmt::Write>(&self, f: &mut fmt::Formatter<W>) -> fmt::Result {
+        if let Some(relay) = &self.relay {
+            write!(f, "relay {} of {} over ", relay.number, relay.members)?;
+        }
+        if let Some(number) = self.bound {
+            write!(f, "bound {number} over ")?;
+        }
+        write!(f, "{}", self.bottom)
+    }
 }

@@ -9,44 +9,18 @@ use chart::charting::Chart;
 use delivery::meaning::Delivery;
 use making::ring_text;
 use reader::reading::read;
+use samples::runs::{FEW, mixed, times};
 use std::env;
-use wirings::bottoms::{new_bag, new_mailbox, new_paired_line};
-
-const FEW: u64 = 200;
+use wirings::bottoms::{Bag, Mailbox, PairedLine};
 
 // Room for a record of 4 bytes for every two of 128 events.
 const ROOM: usize = 32_768;
 
-fn times(rt: &HostRuntime) -> anyhow::Result<u64> {
-    match env::args(rt)?.nth(1) {
-        Some(word) => Ok(word.as_str().parse::<u64>()?),
-        None => Ok(FEW),
-    }
-}
-
+// `read_speed` sums other numbers: what the two chains share is `mixed`.
 fn checksum(bytes: &[u8]) -> u64 {
-    let mut sum: u64 = 0;
-    for byte in bytes {
-        sum = sum.wrapping_mul(31).wrapping_add(u64::from(*byte));
-    }
-    sum
-}
-
-// How many pairs the last report had; none if one was refused.
-fn report_often<D: Delivery>(
-    chart: &Chart,
-    delivery: &D,
-    buffer: &mut [u8],
-    count: u64,
-) -> Option<usize> {
-    let mut pairs = 0;
-    for _ in 0..count {
-        match report(chart, delivery, buffer) {
-            Ok(number) => pairs = number,
-            Err(_) => return None,
-        }
-    }
-    Some(pairs)
+    bytes
+        .iter()
+        .fold(0, |sum, byte| mixed(sum, u64::from(*byte)))
 }
 
 fn measure<D: Delivery>(
@@ -57,30 +31,29 @@ fn measure<D: Delivery>(
     count: u64,
 ) -> anyhow::Result<()> {
     let mut buffer = vec![in rt.alloc(); 0u8; ROOM]?;
-    let Some(pairs) = report_often(chart, delivery, &mut buffer, count) else {
-        return Err(anyhow!("a report is refused"));
-    };
+    let mut pairs = 0;
+    for _ in 0..count {
+        pairs = report(chart, delivery, &mut buffer).map_err(|_| anyhow!("a report is refused"))?;
+    }
     let sum = checksum(&buffer);
     println!(rt; "{count} reports over the {name}: {pairs} pairs, checksum {sum}")?;
     Ok(())
 }
 
 fn run(rt: &HostRuntime) -> anyhow::Result<()> {
-    let count = times(rt)?;
+    let count = times(env::args(rt)?.nth(1), FEW)?;
     let text = ring_text(rt.alloc())?;
     let mut chart = Chart::blank(rt.alloc());
-    if read(&mut chart, &text).is_err() {
-        return Err(anyhow!("the chart is refused"));
-    }
-    measure(rt, "bag", &chart, &new_bag(rt.alloc())?, count)?;
+    read(&mut chart, &text).map_err(|_| anyhow!("the chart is refused"))?;
+    measure(rt, "bag", &chart, &Bag::new(rt.alloc())?, count)?;
     measure(
         rt,
         "paired line",
         &chart,
-        &new_paired_line(rt.alloc())?,
+        &PairedLine::new(rt.alloc())?,
         count,
     )?;
-    measure(rt, "mailbox", &chart, &new_mailbox(rt.alloc())?, count)
+    measure(rt, "mailbox", &chart, &Mailbox::new(rt.alloc())?, count)
 }
 
 fn main(rt: HostRuntime) -> anyhow::Result<()> {

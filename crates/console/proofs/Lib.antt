@@ -1,0 +1,4 @@
+pub mod Spelling
+pub mod Telling
+pub mod Locating
+pub mod Refusing

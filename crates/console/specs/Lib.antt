@@ -1,0 +1,5 @@
+pub mod Positions
+pub mod Failures
+pub mod Reading
+pub mod Rows
+pub mod Options

@@ -1,4 +1,0 @@
-pub mod Stepping
-pub mod Spelling
-pub mod Telling
-pub mod Locating
