@@ -2,9 +2,6 @@
 ghost use Rattle.std.specs.Prelude.{◌≡◌};
 ghost use Rattle.chart.specs.Words.{is_letter, is_word_byte, all_of, reserved, lettered, name_like};
 
-// The words that a chart's text itself is made of.
-const RESERVED: [&[u8]; 7] = [b"msc", b"inst", b"out", b"in", b"to", b"from", b"endmsc"];
-
 // A byte class is a match on the byte as a char, with its ranges written out: the rule for the text format.
 fn is_letter(byte: u8) -> bool
     ensures { result ≡ is_letter byte }
@@ -36,10 +33,14 @@ fn begins_with_letter(text: &[u8]) -> bool
     text.first().is_some_and(|byte| is_letter(*byte))
 }
 
+// The words that a chart's text itself is made of. A match, and no search of a list of them: each name that is read is asked about.
 pub(crate) fn is_reserved(text: &[u8]) -> bool
     ensures { result ≡ reserved text.now }
 {
-    RESERVED.contains(&text)
+    match text {
+        b"msc" | b"inst" | b"out" | b"in" | b"to" | b"from" | b"endmsc" => true,
+        _ => false,
+    }
 }
 
 // Whether the text is a word that may name something, if it is not too long.

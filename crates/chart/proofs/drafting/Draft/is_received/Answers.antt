@@ -1,4 +1,6 @@
-use Rattle.std.proofs.Common.{◌≡◌, ltb, map, count_by, refl, ap, ◌∙◌}
+use Rattle.std.proofs.Common.{◌≡◌, ltb, map, count_by, vec_items, refl, ap, ◌∙◌, rules, tests}
+use Rattle.std.proofs.lemmas.Iterator.{YieldsList-from_slice}
+use Rattle.std.proofs.lemmas.Iterator.Search.{any_from_yields_List}
 use Rattle.chart.specs.Content.{is_received}
 use Rattle.chart.specs.Shown.{happening}
 use Rattle.chart.specs.contracts.pieces.EventPartialEq.TheImpl.{eq-value}
@@ -14,6 +16,6 @@ is_receipt m (In n) = refl
 
 pub returns : goal.returns
 returns c =
-    c.contains.ensures.value
-    ∙ any_counted _ (is_received c.args.message.0) happening (is_receipt c.args.message) c.deref.result.now
-    ∙ ap (λ es. ltb 0 (count_by (is_received c.args.message.0) (map happening es))) c.deref.ensures.value
+    let events = vec_items c.args.self.now.parts.events in
+    any_from_yields_List (λ x. eq-value.it x (In c.args.message)) _ _ c.any.result c.any.ensures.ran (YieldsList-from_slice events cc) (λ x b q k. search (rules, tests))
+    ∙ any_counted _ (is_received c.args.message.0) happening (is_receipt c.args.message) events
