@@ -61,7 +61,7 @@ impl<'a, D: Delivery> Survey<'a, D> {
     // these two, and each that is sent between them and held by the message in prospect.
     fn crowd(&self, prospect: &Prospect, message: MessageId) -> u32
         requires { message.0 < message_limit }
-        ensures { result ≡ crowd_in self.now.order prospect.now message.0 }
+        ensures { result ≡ crowd_in self.now.order.now prospect.now message.0 }
     {
         let row = self.order.row(place_of(Event::Out(message)));
         prospect.after.meet_count(row, &prospect.held) + 2
@@ -70,9 +70,9 @@ impl<'a, D: Delivery> Survey<'a, D> {
     fn can_turn(&self, prospect: &Prospect, a: Event, b: Event) -> bool
         requires first { message_of (happening a) < message_limit }
         requires second { message_of (happening b) < message_limit }
-        ensures { result ≡ turns_in self.now.order prospect.now (D.room self.now.setting.delivery.now) (happening a) (happening b) }
+        ensures { result ≡ turns_in self.now.order.now prospect.now (D.room self.now.setting.delivery.now) (happening a) (happening b) }
     {
-        let order = &self.order;
+        let order = self.order;
         if order.holds(place_of(a), place_of(b)) {
             return false;
         }

@@ -12,6 +12,7 @@ use super::survey::Survey;
 use super::writing::Writer;
 use chart::charting::Chart;
 use delivery::meaning::Delivery;
+use matrix::matrices::OrderMatrix;
 
 // A buffer of this length takes any line.
 pub const LINE_ROOM: usize = 48;
@@ -66,7 +67,8 @@ pub fn listing_line<D: Delivery>(
     if buffer.len() < LINE_ROOM {
         return Err(ListingRefusal::TooShort);
     }
-    let survey = Survey::of(Setting { chart, delivery });
+    let mut order = OrderMatrix::blank();
+    let survey = Survey::of(Setting { chart, delivery }, &mut order);
     let mut walk = survey.races();
     if let Some(race) = walk.nth(line) {
         return Ok(put_race(buffer, chart, race));

@@ -2,7 +2,7 @@
 ghost use Rattle.std.specs.Prelude.{◌≡◌, ◌<◌, length};
 ghost use Rattle.chart.specs.Charted.{content};
 ghost use Rattle.chart.specs.Content.{message_of};
-ghost use Rattle.order.specs.Scenes.{scene_of, event_at};
+ghost use Rattle.order.specs.Scenes.{scene_of, event_at, PairAt};
 ghost use Rattle.analysis.specs.Judging.{Foresees};
 ghost use Rattle.analysis.specs.Outlooks.{Outlooks, Judges};
 ghost use Rattle.analysis.specs.Settings.{scene};
@@ -15,6 +15,7 @@ use chart::charting::Chart;
 use chart::numbers::{EventId, MessageId};
 use chart::pieces::Event;
 use delivery::meaning::Delivery;
+use matrix::matrices::OrderMatrix;
 use matrix::sets::EventSet;
 
 // Of the messages of a reversible pair: the events before the out event of the second, those after the out event of the
@@ -45,6 +46,22 @@ impl<'a, D: Delivery> Survey<'a, D> {
     }
 }
 
+impl<'a, D: Delivery> Setting<'a, D> {
+    // Apart from `judge`, so that two events that are no pair don't pay for the matrix: locals are zeroed at the entry.
+    fn judge_pair(&self, first: EventId, second: EventId) -> Result<Outlook, JudgeRefusal>
+        requires { PairAt (content self.now.chart.now) first.0 second.0 }
+        ensures { Judges (content self.now.chart.now) (scene D.rule D.room self.now) first.0 second.0 result }
+    {
+        let mut order = OrderMatrix::blank();
+        let survey = Survey::of(*self, &mut order);
+        let prospect = survey.prospect_of(first);
+        if !survey.is_race(&prospect, second) {
+            return Err(JudgeRefusal::Fixed);
+        }
+        Ok(survey.outlook_of(&prospect, second))
+    }
+}
+
 // Any two numbers may be asked about.
 // Chart and delivery apart, as `fill` does and for its reason.
 pub fn judge<D: Delivery>(
@@ -63,10 +80,5 @@ pub fn judge<D: Delivery>(
     if !setting.is_pair(first, second) {
         return Err(JudgeRefusal::NotPair);
     }
-    let survey = Survey::of(setting);
-    let prospect = survey.prospect_of(first);
-    if !survey.is_race(&prospect, second) {
-        return Err(JudgeRefusal::Fixed);
-    }
-    Ok(survey.outlook_of(&prospect, second))
+    setting.judge_pair(first, second)
 }

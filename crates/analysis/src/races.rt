@@ -9,6 +9,7 @@ use chart::charting::Chart;
 use chart::numbers::{EventId, InstanceId};
 use chart::pieces::Side;
 use delivery::meaning::Delivery;
+use matrix::matrices::OrderMatrix;
 use std::alloc::{AllocError, Global};
 
 // Two events of one instance, the first drawn above the second, that can come the other way round; the side is that of the first.
@@ -30,6 +31,8 @@ pub fn races<D: Delivery>(
     ensures lists { IfOk result (λ v. v.items ≡ races_of (content chart.now) (D.rule delivery.now) (D.room delivery.now)) }
     ensures exact { ExactPairs (content chart.now) (D.rule delivery.now) (D.room delivery.now) }
 {
-    let survey = Survey::of(Setting { chart, delivery });
-    survey.races().collect(heap)
+    let mut order = OrderMatrix::blank();
+    let survey = Survey::of(Setting { chart, delivery }, &mut order);
+    let walk = survey.races();
+    walk.collect(heap)
 }

@@ -11,6 +11,7 @@ use super::survey::Survey;
 use super::writing::Writer;
 use chart::charting::Chart;
 use delivery::meaning::Delivery;
+use matrix::matrices::OrderMatrix;
 
 // Puts a record for each reversible pair at the front of the buffer, rising by the first event and then by the second, and
 // answers how many there are.
@@ -24,7 +25,8 @@ pub fn report<D: Delivery>(
     ensures bytes { buffer.new ≡ reported (races_of (content chart.now) (D.rule delivery.now) (D.room delivery.now)) buffer.old }
     ensures exact { ExactPairs (content chart.now) (D.rule delivery.now) (D.room delivery.now) }
 {
-    let survey = Survey::of(Setting { chart, delivery });
+    let mut order = OrderMatrix::blank();
+    let survey = Survey::of(Setting { chart, delivery }, &mut order);
     let pairs = survey.races().count();
     if buffer.len() < RECORD_BYTES * pairs {
         return Err(ReportRefusal::TooShort { pairs });

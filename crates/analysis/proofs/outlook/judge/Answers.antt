@@ -1,41 +1,13 @@
-use Rattle.std.proofs.Common.{◌<◌, length, sym, ap, ◌∙◌, subst, arith}
+use Rattle.std.proofs.Common.{◌<◌, length, sym, ◌∙◌, arith}
 use Rattle.chart.specs.Charted.{content}
-use Rattle.chart.specs.Content.{message_of}
-use Rattle.chart.specs.declared.numbers.EventId.{EventId}
-use Rattle.order.specs.Scenes.{event_at}
-use Rattle.analysis.specs.Outlooks.{Outlooks}
-use Rattle.analysis.specs.Settings.{scene, is_race}
 use Rattle.analysis.proofs.Asked.{as_many_events}
-use Rattle.analysis.proofs.Verdicts.{a_pair, reversible, fixed}
+use Rattle.analysis.proofs.Verdicts.{a_pair}
 use Rattle.analysis.proofs.outlook.judge.Goals as goal
 
-pub returns-then-not-is_race : goal.returns-then-not-is_race
-returns-then-not-is_race g c =
-    let rule = g.D.Delivery.rule in
-    let room = g.D.Delivery.room in
+pub judge_pair-requires : goal.judge_pair-requires
+judge_pair-requires g c =
     let chart = c.args.chart.now in
-    let d = c.args.delivery.now in
     let b = c.args.second.0 in
     let e = as_many_events chart c.events-events.result.now c.events-events.ensures in
     let l : b < length (content chart).events = omega arith in
-    let pair = a_pair (content chart) c.args.first.0 b l (sym c.if-not-is_pair.false ∙ c.is_pair.ensures) in
-    let told = c.is_race.ensures ∙ ap (λ (a : EventId). is_race rule room c.of-survey.result.setting a.0 b) c.prospect_of-prospect.ensures.first ∙ ap (λ t. is_race rule room t c.args.first.0 b) c.of-survey.ensures in
-    (pair, fixed chart (rule d) (room d) (g.met.D.Delivery.transitive d) (g.met.D.Delivery.some d) c.args.first.0 b pair (sym c.if-not-is_race.true ∙ told))
-
-pub returns : goal.returns
-returns g c =
-    let rule = g.D.Delivery.rule in
-    let room = g.D.Delivery.room in
-    let chart = c.args.chart.now in
-    let d = c.args.delivery.now in
-    let b = c.args.second.0 in
-    let e = as_many_events chart c.events-events.result.now c.events-events.ensures in
-    let l : b < length (content chart).events = omega arith in
-    let pair = a_pair (content chart) c.args.first.0 b l (sym c.if-not-is_pair.false ∙ c.is_pair.ensures) in
-    let told = c.is_race.ensures ∙ ap (λ (a : EventId). is_race rule room c.of-survey.result.setting a.0 b) c.prospect_of-prospect.ensures.first ∙ ap (λ t. is_race rule room t c.args.first.0 b) c.of-survey.ensures in (
-      pair,
-      reversible chart (rule d) (room d) (g.met.D.Delivery.transitive d) (g.met.D.Delivery.some d) c.args.first.0 b pair (sym c.if-not-is_race.false ∙ told),
-      subst (λ t. Outlooks (scene rule room t) (message_of (event_at (content t.chart.now) c.args.first.0)) (message_of (event_at (content t.chart.now) b)) c.outlook_of.result) c.of-survey.ensures
-          (subst (λ (a : EventId). Outlooks (scene rule room c.of-survey.result.setting) (message_of (event_at (content c.of-survey.result.setting.chart.now) a.0)) (message_of (event_at (content c.of-survey.result.setting.chart.now) b)) c.outlook_of.result)
-          c.prospect_of-prospect.ensures.first c.outlook_of.ensures),
-    )
+    a_pair (content chart) c.args.first.0 b l (sym c.if-not-is_pair.false ∙ c.is_pair.ensures)

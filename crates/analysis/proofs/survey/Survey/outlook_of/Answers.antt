@@ -16,6 +16,6 @@ returns g c =
     let survey = c.args.self.now in
     let chart = survey.setting.chart.now in
     let p = c.args.prospect.now in
-    outlooks (scene g.D.Delivery.rule g.D.Delivery.room survey.setting) survey.order p (message_of (event_at (content chart) p.first.0)) (message_of (event_at (content chart) c.args.second.0)) c.place_of.result.number _
+    outlooks (scene g.D.Delivery.rule g.D.Delivery.room survey.setting) survey.order.now p (message_of (event_at (content chart) p.first.0)) (message_of (event_at (content chart) c.args.second.0)) c.place_of.result.number _
     survey.filled c.requires.foresees.seen (event_has_message chart c.args.second.0 c.requires.inside)
     c.message_at.ensures c.message_at-second.ensures (place c.message_at-second.result.0 _ _ c.message_at-second.ensures c.place_of.ensures) c.row.ensures refl refl

@@ -13,5 +13,5 @@ returns g c =
     let m = c.message_at-message.ensures in
     let inside = message_inside chart c.message_at-message.result.0 c.args.first.0 m c.requires in
     let seen = subst (λ (k : ℕ). Foreseen s k (record { first = c.args.first; after = c.column.result; held = c.hold_row.result })) m
-    (foreseen_by s survey.order c.message_at-message.result.0 c.place_of.result.number c.args.first c.column.result c.hold_row.result (few_messages chart) survey.filled inside c.place_of.ensures c.column.ensures c.hold_row.ensures) in
+    (foreseen_by s survey.order.now c.message_at-message.result.0 c.place_of.result.number c.args.first c.column.result c.hold_row.result (few_messages chart) survey.filled inside c.place_of.ensures c.column.ensures c.hold_row.ensures) in
     record { foresees = record { inside = c.requires; seen = seen }; first = refl }
