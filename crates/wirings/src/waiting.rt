@@ -13,31 +13,38 @@ use delivery::parcel::{Parcel, Tag};
 use delivery::refusal::{Accepted, PutRefusal, TakeRefusal};
 use std::alloc::{AllocError, Global};
 
-impl<R: HoldRule + Default + Drop> Queue<R> {
-    fn with_capacity(heap: Global, capacity: u16) -> Result<Queue<R>, AllocError>
+impl<R: HoldRule + Drop> Queue<R> {
+    // An empty queue over this rule, which may keep data; refused only if there is no memory for as many parcels as may wait.
+    pub(crate) fn with_capacity(
+        heap: Global,
+        rule: R,
+        capacity: u16,
+    ) -> Result<Queue<R>, AllocError>
         requires { (1 ≤ capacity) × (capacity ≤ message_limit) }
-        ensures { IfOk result (λ q. R.is_default q.rule × (q.capacity ≡ capacity) × (q.parcels.items ≡ [])) }
+        ensures { IfOk result (λ q. (q.rule ≡ rule) × (q.capacity ≡ capacity) × (q.parcels.items ≡ [])) }
     {
         let parcels = Vec::with_capacity(heap, capacity as usize)?;
         Ok(Queue {
-            rule: R::default(),
+            rule,
             capacity,
             parcels,
         })
     }
+}
 
+impl<R: HoldRule + Default + Drop> Queue<R> {
     // An empty queue for as many parcels as there can be messages; refused only if there is no memory for them.
     pub fn new(heap: Global) -> Result<Queue<R>, AllocError>
         ensures { IfOk result (λ q. R.is_default q.rule × (q.capacity ≡ message_limit) × (q.parcels.items ≡ [])) }
     {
-        Queue::with_capacity(heap, MESSAGE_LIMIT)
+        Queue::with_capacity(heap, R::default(), MESSAGE_LIMIT)
     }
 
     // An empty queue for one parcel: the next is accepted only when the last has been taken.
     pub fn one_at_a_time(heap: Global) -> Result<Queue<R>, AllocError>
         ensures { IfOk result (λ q. R.is_default q.rule × (q.capacity ≡ 1) × (q.parcels.items ≡ [])) }
     {
-        Queue::with_capacity(heap, 1)
+        Queue::with_capacity(heap, R::default(), 1)
     }
 }
 
