@@ -1,6 +1,7 @@
 // What the program is asked to do.
-ghost use Rattle.std.specs.Prelude.{◌≡◌, string_bytes};
+ghost use Rattle.std.specs.Prelude.{◌≡◌, Some, string_bytes};
 ghost use Rattle.std.specs.Option.{option_map};
+ghost use Rattle.rehearse.specs.Misuses.{usage_words};
 ghost use Rattle.rehearse.specs.Requests.{wish_of, asked};
 
 use console::failures;
@@ -15,6 +16,8 @@ pub(crate) const USAGE: &str =
 pub(crate) struct Misuse;
 
 impl fmt::Display for Misuse {
+    ghost output = { λ _. Some usage_words };
+
     fn fmt<W: fmt::Write>(&self, f: &mut fmt::Formatter<W>) -> fmt::Result {
         f.write_str(USAGE)
     }

@@ -1,5 +1,6 @@
 // What the program is asked to do.
-ghost use Rattle.std.specs.Prelude.{◌≡◌, IfOk, string_bytes};
+ghost use Rattle.std.specs.Prelude.{◌≡◌, IfOk, Some, string_bytes};
+ghost use Rattle.rehearse_wired.specs.Misuses.{key_words};
 ghost use Rattle.rehearse_wired.specs.Requests.{kind_of, RelayRead, value_of, stands, Joined, source_set, AsksFor};
 
 use super::misuse::{Failure, Misuse};
@@ -29,6 +30,8 @@ pub(crate) enum Key {
 }
 
 impl fmt::Display for Key {
+    ghost output = { λ key. Some (key_words key) };
+
     fn fmt<W: fmt::Write>(&self, f: &mut fmt::Formatter<W>) -> fmt::Result {
         f.write_str(match self {
             Key::Wiring => "--wiring",

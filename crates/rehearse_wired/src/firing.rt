@@ -60,12 +60,18 @@ impl fmt::Display for Named<'_, Refusal> {
 impl Rehearsal<'_> {
     fn print_firing<D: Delivery>(&self, bench: &mut Bench<D>, event: EventId) -> io::Result<()> {
         let answer = bench.fire(event);
-        print!(self.rt; "fire {}: ", event.0)?;
+        let number = event.0;
+        // one call for each line, so that it is written at once
         match answer {
-            Ok(()) => println!(self.rt; "accepted, {} waiting", bench.waiting_count()),
+            Ok(()) => {
+                println!(self.rt;
+                    "fire {number}: accepted, {} waiting",
+                    bench.waiting_count()
+                )
+            }
             Err(refusal) => {
                 let why = Named(self.chart, refusal);
-                println!(self.rt; "refused {}, {why}", refusal.number())
+                println!(self.rt; "fire {number}: refused {}, {why}", refusal.number())
             }
         }
     }

@@ -1,5 +1,6 @@
 // How the program can be called wrongly.
-ghost use Rattle.std.specs.Prelude.{◌≡◌};
+ghost use Rattle.std.specs.Prelude.{◌≡◌, Some};
+ghost use Rattle.rehearse_wired.specs.Misuses.{expected_words, misuse_words};
 ghost use Rattle.rehearse_wired.specs.Sending.{unbuilt_of};
 
 use super::arguments::Key;
@@ -49,6 +50,8 @@ impl<D: Drop> From<Unbuilt<D>> for Misuse {
 struct Expected(Key);
 
 impl fmt::Display for Expected {
+    ghost output = { λ expected. Some (expected_words expected.0) };
+
     fn fmt<W: fmt::Write>(&self, f: &mut fmt::Formatter<W>) -> fmt::Result {
         f.write_str(match self.0 {
             Key::Wiring => "expected bag, paired, mailbox or meeting",
@@ -61,6 +64,8 @@ impl fmt::Display for Expected {
 }
 
 impl fmt::Display for Misuse {
+    ghost output = { λ misuse. Some (misuse_words misuse) };
+
     fn fmt<W: fmt::Write>(&self, f: &mut fmt::Formatter<W>) -> fmt::Result {
         match self {
             Misuse::Stray(word) => write!(
